@@ -1,0 +1,29 @@
+-- What is proved of the rules of document 01. Each statement is a field; proofs/ has a proof of each.
+use mathlib.Core.Path.{_≡_}
+use Prim.Native.Nat.{ℕ, suc, _+_, _-_, _*_, _≤_, _<_, min}
+use Rattle.rules.specs.declared.Promise.{Promise}
+use Rattle.rules.specs.BoothTable.{Line}
+use Rattle.rules.specs.ArrivalLog.{Entry}
+use Rattle.rules.specs.Admission.{roundedUp}
+use Rattle.rules.specs.Due.{due, releasePoint}
+
+-- a promise as the reader of the table lets it pass: T at least 1, B from 1 to T
+pub record Sound (p : Promise) : Type 0 where
+  pub period : 0 < p .period
+  pub allowance : 0 < p .allowance
+  pub within : p .allowance ≤ p .period
+
+-- 1. The laws of due, for every sound promise.
+pub record LawsOfDue : Type 0 where
+  -- D1: nothing is due at the start
+  pub at-start : (p : Promise) → due p 0 ≡ 0
+  -- D2: from a wall tick to the next, what is due stays or grows by one
+  pub by-one : (p : Promise) → Sound p → (t : ℕ) → (due p t ≤ due p (suc t)) × (due p (suc t) ≤ due p t + 1)
+  -- D3: within the period that begins at k whole periods, k allowances and then one tick for each tick, up to the allowance
+  pub in-period : (p : Promise) → Sound p → (k t : ℕ) → k * p .period ≤ t → t ≤ suc k * p .period → due p t ≡ k * p .allowance + min (t - k * p .period) (p .allowance)
+  -- D3 at k whole periods: k allowances
+  pub whole-periods : (p : Promise) → Sound p → (k : ℕ) → due p (k * p .period) ≡ k * p .allowance
+  -- D4: in any stretch of L wall ticks at most L / T rounded up allowances fall due
+  pub in-stretch : (p : Promise) → Sound p → (t L : ℕ) → due p (t + L) ≤ due p t + roundedUp L (p .period) * p .allowance
+  -- release points of one booth never fall from an entry to a later one
+  pub points-never-fall : (l : Line) → Sound (l .promise) → (e f : Entry) → e .tick ≤ f .tick → releasePoint l e ≤ releasePoint l f
