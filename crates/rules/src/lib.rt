@@ -1,6 +1,8 @@
 // The value types that every crate shares, and `due`, the one place where a wall tick becomes an own tick.
 ghost use mathlib.Core.Path.{_≡_};
-ghost use Prim.Native.Nat.{_≤_, _<_};
+ghost use Prim.Native.Nat.{_+_, _≤_, _<_};
+ghost use lib.ListN.{length};
+ghost use Rattle.rules.specs.Bytes.{numberAt};
 ghost use Rattle.rules.specs.Due as page;
 
 // A moment of the session's clock, which all booths share.
@@ -47,6 +49,29 @@ pub enum Refused {
 pub struct Verdict {
     pub refused: Refused,
     pub refusal: Refusal,
+}
+
+// A byte as a wider number.
+pub fn wide(x: u8) -> u32
+    ensures { λ r. ⌜ (r ≡ x) × (r < 256) ⌝ }
+{
+    x as u32
+}
+
+// The number in the two bytes from `at`.
+pub fn number16(bytes: &[u8], at: usize) -> u32
+    requires { ⌜ at + 2 ≤ length (now bytes) ⌝ }
+    ensures { λ r. ⌜ (r ≡ numberAt 2 (now (bytes .entry)) at) × (r < 65536) ⌝ }
+{
+    wide(bytes[at]) * 256 + wide(bytes[at + 1])
+}
+
+// The number in the four bytes from `at`.
+pub fn number32(bytes: &[u8], at: usize) -> u32
+    requires { ⌜ at + 4 ≤ length (now bytes) ⌝ }
+    ensures { λ r. ⌜ r ≡ numberAt 4 (now (bytes .entry)) at ⌝ }
+{
+    number16(bytes, at) * 65536 + number16(bytes, at + 2)
 }
 
 fn smaller(a: u32, b: u32) -> u32
