@@ -10,4 +10,5 @@ pub mod Session
 pub mod SoloPart
 pub mod RowBack
 pub mod Panel
+pub mod Values
 pub mod MarkedCases

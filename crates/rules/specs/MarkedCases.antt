@@ -182,7 +182,7 @@ unfolding
     Bytes.bigEndian Bytes.numberAt Bytes.written
     refusal Refusals.refuseIf Refusals.firstFault accepted refusedAs
     BoothTable.no-line BoothTable.tableN BoothTable.headerChecks BoothTable.jobsAt BoothTable.recordL BoothTable.recordEnd BoothTable.lineAt
-    BoothTable.lengthAllowed BoothTable.someZero BoothTable.recordChecks BoothTable.withLine BoothTable.readRecords BoothTable.readLines
+    BoothTable.lengthAllowed BoothTable.someZero BoothTable.lineChecks BoothTable.recordChecks BoothTable.withLine BoothTable.readRecords BoothTable.readLines
     Admission.roundedUp Admission.askedAbove Admission.someUpTo Admission.passes Admission.firstFailing readTable
     ArrivalLog.logN ArrivalLog.logH ArrivalLog.logHeaderChecks ArrivalLog.entryAt ArrivalLog.longestJobs ArrivalLog.entryChecks
     ArrivalLog.withEntry ArrivalLog.readEntries ArrivalLog.withHorizon ArrivalLog.readLog

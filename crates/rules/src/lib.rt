@@ -37,6 +37,12 @@ pub struct Refusal {
     pub place: usize,
 }
 
+// What a run of checks finds: the first that fails, or nothing.
+pub enum Fault {
+    Found(Refusal),
+    Nothing,
+}
+
 // Which of the things handed in is refused: a file, or the call itself (a lent buffer, or a number asked).
 pub enum Refused {
     Nothing,

@@ -1,0 +1,135 @@
+// The booth table's reader and admission: any bytes, a table or the refusal of document 01.
+ghost use mathlib.Core.Path.{_≡_};
+ghost use mathlib.Core.List.{map};
+ghost use mathlib.Core.Option.{some};
+ghost use Prim.Native.Nat.{_+_, _*_, _≤_, _<_};
+ghost use lib.ListN.{length, take, getD};
+ghost use Rattle.rules.specs.Refusals.{refusal, firstFault, faultOf};
+ghost use Rattle.rules.specs.BoothTable as page;
+ghost use Rattle.rules.specs.Admission as admission;
+ghost use Rattle.rules.specs.Values.{padded, heldLine, lineHeld, linesHeld};
+ghost use Rattle.table.specs.Answer as said;
+ghost use Rattle.table.specs.Fit.{FitLine, FitLines, FitTable, Sounds};
+
+use rules::Fault;
+use rules::Line;
+use rules::Promise;
+use rules::Refusal;
+use rules::Table;
+
+// What the reader answers: number 0 and the table, or a refusal and a table of no booths.
+pub struct TableAnswer {
+    pub refusal: Refusal,
+    pub table: Table,
+}
+
+// The records before admission.
+pub struct Records {
+    pub fault: Fault,
+    pub table: Table,
+}
+
+fn fault(number: u32, place: usize) -> Fault
+    ensures { λ r. ⌜ r ≡ faultOf (some (refusal number place)) ⌝ }
+{
+    Fault::Found(Refusal { number, place })
+}
+
+// No byte, version, the header's three bytes, the bytes that N promises, bytes left over, no booth.
+fn header_fault(bytes: &[u8]) -> Fault
+    ensures { λ r. ⌜ r ≡ faultOf (firstFault (page.headerChecks (now (bytes .entry)))) ⌝ }
+{
+    let len = bytes.len();
+    if len == 0 {
+        return fault(1, 0);
+    }
+    if bytes[0] != 1 {
+        return fault(2, 0);
+    }
+    if len < 3 {
+        return fault(1, len);
+    }
+    let end = 3 + rules::number16(bytes, 1) as usize;
+    if len < end {
+        return fault(1, len);
+    }
+    if end < len {
+        return fault(3, end);
+    }
+    if end == 3 {
+        return fault(4, 3);
+    }
+    Fault::Nothing
+}
+
+// The longest jobs that stand from `at` on, two bytes each.
+fn longest_at(bytes: &[u8], at: usize, tasks: usize) -> [u32; 8]
+    requires { ⌜ (tasks ≤ 8) × (at + 2 * tasks ≤ length (now bytes)) ⌝ }
+    ensures { λ r. ⌜ r ≡ padded 8 0 (page.jobsAt tasks (now (bytes .entry)) at) ⌝ }
+{
+    let mut longest = [0u32; 8];
+    let mut k = 0;
+    while k < tasks {
+        longest[k] = rules::number16(bytes, at + 2 * k);
+        k += 1;
+    }
+    longest
+}
+
+// The line of the record that starts at `at`, whose bytes are all there.
+fn line_at(bytes: &[u8], at: usize, l: usize) -> Line
+    requires { ⌜ (at < length (now bytes)) × (l ≡ getD (now bytes) at 0) × (6 ≤ l) × (l ≤ 20) × (at + 1 + l ≤ length (now bytes)) ⌝ }
+    ensures { λ r. ⌜ r ≡ heldLine (page.lineAt (now (bytes .entry)) at) ⌝ }
+{
+    let tasks = (l - 4) / 2;
+    let period = rules::number16(bytes, at + 1);
+    let allowance = rules::number16(bytes, at + 3);
+    let longest = longest_at(bytes, at + 5, tasks);
+    let promise = Promise { period, allowance };
+    Line {
+        promise,
+        tasks,
+        longest,
+        start: at,
+    }
+}
+
+fn some_zero(longest: [u32; 8], tasks: usize) -> bool
+    requires { ⌜ tasks ≤ 8 ⌝ }
+    ensures { λ r. ⌜ r ≡ page.someZero (take tasks longest) ⌝ }
+{
+    let mut k = 0;
+    while k < tasks {
+        if longest[k] == 0 {
+            return true;
+        }
+        k += 1;
+    }
+    false
+}
+
+// T, B, longest jobs.
+fn line_fault(line: Line) -> Fault
+    requires { ⌜ line .tasks ≤ 8 ⌝ }
+    ensures { λ r. ⌜ r ≡ faultOf (firstFault (page.lineChecks (lineHeld line))) ⌝ }
+{
+    let start = line.start;
+    let promise = line.promise;
+    if promise.period == 0 {
+        return fault(6, start);
+    }
+    if 10000 < promise.period {
+        return fault(6, start);
+    }
+    if promise.allowance == 0 {
+        return fault(6, start);
+    }
+    if promise.period < promise.allowance {
+        return fault(6, start);
+    }
+    let longest = line.longest;
+    if some_zero(longest, line.tasks) {
+        return fault(6, start);
+    }
+    Fault::Nothing
+}
