@@ -1,16 +1,15 @@
 // The booth table's reader and admission: any bytes, a table or the refusal of document 01.
 ghost use mathlib.Core.Path.{_≡_};
-ghost use mathlib.Core.List.{map};
+ghost use mathlib.Core.List.{[], map};
 ghost use mathlib.Core.Option.{some};
 ghost use Prim.Native.Nat.{_+_, _*_, _≤_, _<_};
 ghost use lib.ListN.{length, take, getD};
 ghost use Rattle.rules.specs.Refusals.{refusal, firstFault, faultOf};
 ghost use Rattle.rules.specs.BoothTable as page;
 ghost use Rattle.rules.specs.Admission as admission;
-ghost use Rattle.rules.specs.Values.{padded, heldLine, lineHeld, linesHeld};
+ghost use Rattle.rules.specs.Values.{padded, heldLine, heldTable, lineHeld, linesHeld};
 ghost use Rattle.table.specs.Answer as said;
 ghost use Rattle.table.specs.Fit.{FitLine, FitLines, FitTable, Sounds};
-
 use rules::Fault;
 use rules::Line;
 use rules::Promise;
@@ -132,4 +131,77 @@ fn line_fault(line: Line) -> Fault
         return fault(6, start);
     }
     Fault::Nothing
+}
+
+// The checks of the record that starts at `at`.
+fn record_fault(bytes: &[u8], at: usize) -> Fault
+    requires { ⌜ at < length (now bytes) ⌝ }
+    ensures { λ r. ⌜ r ≡ faultOf (firstFault (page.recordChecks (now (bytes .entry)) at)) ⌝ }
+{
+    let l = rules::wide(bytes[at]) as usize;
+    if l < 6 {
+        return fault(5, at);
+    }
+    if 20 < l {
+        return fault(5, at);
+    }
+    if l % 2 != 0 {
+        return fault(5, at);
+    }
+    if bytes.len() < at + 1 + l {
+        return fault(1, at);
+    }
+    line_fault(line_at(bytes, at, l))
+}
+
+fn no_line() -> Line
+    ensures { λ r. ⌜ r ≡ heldLine page.no-line ⌝ }
+{
+    let promise = Promise {
+        period: 0,
+        allowance: 0,
+    };
+    Line {
+        promise,
+        tasks: 0,
+        longest: [0; 8],
+        start: 0,
+    }
+}
+
+// A refusal goes with a table of no booths.
+fn no_records(fault: Fault) -> Records
+    ensures { λ r. ⌜ r ≡ said.noRecords fault ⌝ }
+{
+    let lines = [no_line(); 8];
+    let table = Table { booths: 0, lines };
+    Records { fault, table }
+}
+
+// The records left to right; the ninth is one too many.
+fn read_records(bytes: &[u8]) -> Records
+    ensures read { λ r. ⌜ r ≡ said.recordsRead (page.readRecords 8 (now (bytes .entry)) 3) ⌝ }
+    ensures fit { λ r. ⌜ FitTable (r .table) ⌝ }
+{
+    let mut lines = [no_line(); 8];
+    let mut booths = 0;
+    let mut at = 3;
+    while at < bytes.len() {
+        if booths == 8 {
+            return no_records(fault(4, at));
+        }
+        let found = record_fault(bytes, at);
+        if let Fault::Found(_) = found {
+            return no_records(found);
+        }
+        let l = rules::wide(bytes[at]) as usize;
+        lines[booths] = line_at(bytes, at, l);
+        booths += 1;
+        at = at + 1 + l;
+    }
+    let table = Table { booths, lines };
+    Records {
+        fault: Fault::Nothing,
+        table,
+    }
 }

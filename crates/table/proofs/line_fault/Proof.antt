@@ -1,5 +1,4 @@
 -- `table::line_fault` meets its contract: each return is the first check that fails. Assumes nothing.
-use mathlib.Core.Bool.{or-true}
 use borrow.Author.Tests.{eq-eqb, ne-eqb, lt-ltb, le-ltb}
 use Rattle.rules.specs.Refusals.{refuseIf, firstFault, faultOf}
 use Rattle.rules.specs.BoothTable.{lineChecks}
@@ -24,7 +23,7 @@ fault-requires-2 c κs = search needs
 
 returns-2 : tie.Need-returns-2
 unfolding lineChecks lineHeld firstFault refuseIf
-returns-2 c = simp (c .fault2 .ensures, ne-eqb _ _ (c .before .before .before .if1 .left), lt-ltb _ _ (c .before .if2 .taken), or-true)
+returns-2 c = simp (c .fault2 .ensures, ne-eqb _ _ (c .before .before .before .if1 .left), lt-ltb _ _ (c .before .if2 .taken))
 
 fault-requires-3 : tie.Need-fault-requires-3
 fault-requires-3 c κs = search needs
@@ -38,7 +37,7 @@ fault-requires-4 c κs = search needs
 
 returns-4 : tie.Need-returns-4
 unfolding lineChecks lineHeld firstFault refuseIf
-returns-4 c = simp (c .fault4 .ensures, ne-eqb _ _ (c .before .before .before .before .before .before .before .if1 .left), le-ltb _ _ (c .before .before .before .before .before .if2 .left), ne-eqb _ _ (c .before .before .before .if3 .left), lt-ltb _ _ (c .before .if4 .taken), or-true)
+returns-4 c = simp (c .fault4 .ensures, ne-eqb _ _ (c .before .before .before .before .before .before .before .if1 .left), le-ltb _ _ (c .before .before .before .before .before .if2 .left), ne-eqb _ _ (c .before .before .before .if3 .left), lt-ltb _ _ (c .before .if4 .taken))
 
 some-zero-requires : tie.Need-some-zero-requires
 some-zero-requires c κs = search needs
