@@ -15,12 +15,14 @@ use Rattle.rules.specs.declared.Line.{Line as HeldLine}
 use Rattle.rules.specs.declared.Refusal.{Refusal}
 use Rattle.rules.specs.declared.Fault.{Fault}
 use Rattle.rules.specs.Refusals.{Taken, taken, refused, refusal, firstFault, faultOf}
-use Rattle.rules.specs.BoothTable.{Line, no-line, recordL, recordEnd, lineAt, jobsAt, lengthAllowed, someZero, lineChecks, recordChecks, withLine, readRecords}
-use Rattle.rules.specs.Values.{padded, heldLine, heldTable}
+use Rattle.rules.specs.BoothTable.{Line, no-line, recordL, recordEnd, lineAt, jobsAt, lengthAllowed, someZero, lineChecks, recordChecks, withLine, readRecords, headerChecks, readLines}
+use Rattle.rules.specs.Admission.{firstFailing, readTable}
+use Rattle.rules.specs.Values.{padded, heldLine, heldTable, no-held-line}
 use Rattle.rules.proofs.Checks.{passed, neither}
 use Rattle.rules.proofs.Held.{length-padded, set-padded, getD-padded}
 use Rattle.table.specs.declared.Records.{Records}
-use Rattle.table.specs.Answer.{recordsRead, noRecords}
+use Rattle.table.specs.declared.TableAnswer.{TableAnswer}
+use Rattle.table.specs.Answer.{recordsRead, noRecords, answered, refusedTable, notAdmitted}
 use Rattle.table.specs.Fit.{FitLine, FitLines, FitTable}
 use Rattle.table.proofs.Lines.{length-jobs, allowed-range, no-zero}
 
@@ -154,14 +156,14 @@ stands-on bs lines booths at l s room inside e is =
         map-snoc [] x = refl
         map-snoc (y ∷ xs) x = ap (λ zs. heldLine y ∷ zs) (map-snoc xs x)
 
-    fit : (j : ℕ) → j < booths + 1 → FitLine (getD (set lines booths l) j (heldLine no-line))
+    fit : (j : ℕ) → j < booths + 1 → FitLine (getD (set lines booths l) j no-held-line)
     fit j h = go (ℕ-discrete j booths)
       where
-        go : Dec (j ≡ booths) → FitLine (getD (set lines booths l) j (heldLine no-line))
+        go : Dec (j ≡ booths) → FitLine (getD (set lines booths l) j no-held-line)
         go (yes q) =
-            subst FitLine (sym (ap (λ i. getD (set lines booths l) i (heldLine no-line)) q ∙ getD-set-same lines booths l (heldLine no-line) (omega (arith, s .fit .eight)) ∙ is))
+            subst FitLine (sym (ap (λ i. getD (set lines booths l) i no-held-line) q ∙ getD-set-same lines booths l no-held-line (omega (arith, s .fit .eight)) ∙ is))
             ((record-passed bs at e) .fit)
-        go (no q) = subst FitLine (sym (getD-set-other lines booths j l (heldLine no-line) q)) (s .fit .line j (omega arith))
+        go (no q) = subst FitLine (sym (getD-set-other lines booths j l no-held-line q)) (s .fit .line j (omega arith))
 
 -- nothing is read before the first record
 pub stands-first : (bs : List ℕ) (l : HeldLine) → l ≡ heldLine no-line → Standing bs (l ∷ l ∷ l ∷ l ∷ l ∷ l ∷ l ∷ l ∷ []) 0 3
@@ -198,3 +200,63 @@ stands-done bs lines booths at s h =
           ∙ sym (ap recordsRead whole),
       record { lines = s .fit },
     )
+
+-- ---- the whole table
+
+pub header-refused : (bs : List ℕ) (r : Refusal) → firstFault (headerChecks bs) ≡ some r → readTable bs ≡ refused r
+unfolding readTable readLines
+header-refused bs r e =
+    let lines : readLines bs ≡ refused r = rw (e, readLines) in
+    rw (lines, readTable)
+
+header-passed : (bs : List ℕ) → firstFault (headerChecks bs) ≡ none → readLines bs ≡ readRecords 8 bs 3
+unfolding readLines
+header-passed bs e = rw (e, readLines)
+
+pub records-refused : (bs : List ℕ) (r : Refusal) → firstFault (headerChecks bs) ≡ none → (recordsRead (readRecords 8 bs 3)) .fault ≡ Fault.Found r → readTable bs ≡ refused r
+unfolding recordsRead noRecords faultOf readTable
+records-refused bs r e f = go (readRecords 8 bs 3) refl f
+  where
+    go : (t : Taken (List Line)) → readRecords 8 bs 3 ≡ t → (recordsRead t) .fault ≡ Fault.Found r → readTable bs ≡ refused r
+    go (taken ls) q g = cc
+    go (refused s) q g =
+        let same : s ≡ r = cc in
+        rw (header-passed bs e ∙ q, readTable) (ap refused same)
+
+-- the lines that a reader found no fault in
+pub record Lines (bs : List ℕ) : Type 0 where
+  pub lines : List Line
+  pub read : readRecords 8 bs 3 ≡ taken lines
+  pub held : (recordsRead (readRecords 8 bs 3)) .table ≡ heldTable lines
+
+pub records-taken : (bs : List ℕ) → (recordsRead (readRecords 8 bs 3)) .fault ≡ Fault.Nothing → Lines bs
+unfolding recordsRead noRecords faultOf
+records-taken bs f = go (readRecords 8 bs 3) refl f
+  where
+    go : (t : Taken (List Line)) → readRecords 8 bs 3 ≡ t → (recordsRead t) .fault ≡ Fault.Nothing → Lines bs
+    go (taken ls) q g = record { lines = ls; read = q; held = ap (λ t. (recordsRead t) .table) q }
+    go (refused s) q g = let z : _≡_ {A = ℕ} 0 1 = cc in absurd (omega arith)
+
+pub admission-refused : (bs : List ℕ) (r : Refusal) → firstFault (headerChecks bs) ≡ none → (l : Lines bs)
+    → notAdmitted (firstFailing [] (l .lines)) ≡ some r → readTable bs ≡ refused r
+unfolding notAdmitted readTable
+admission-refused bs r e l f = go (firstFailing [] (l .lines)) refl f
+  where
+    go : (o : Option ℕ) → firstFailing [] (l .lines) ≡ o → notAdmitted o ≡ some r → readTable bs ≡ refused r
+    go none q g = cc
+    go (some at) q g =
+        let same : refusal 7 at ≡ r = cc in
+        rw (header-passed bs e ∙ l .read, readTable) (rw q (ap refused same))
+
+pub admitted : (bs : List ℕ) → firstFault (headerChecks bs) ≡ none → (l : Lines bs) → notAdmitted (firstFailing [] (l .lines)) ≡ none → readTable bs ≡ taken (l .lines)
+unfolding notAdmitted readTable
+admitted bs e l f = go (firstFailing [] (l .lines)) refl f
+  where
+    go : (o : Option ℕ) → firstFailing [] (l .lines) ≡ o → notAdmitted o ≡ none → readTable bs ≡ taken (l .lines)
+    go none q g = rw (header-passed bs e ∙ l .read, readTable) (rw q)
+    go (some at) q g = cc
+
+-- a refusal answered
+pub refused-answer : (bs : List ℕ) (a : TableAnswer) (r : Refusal) → a ≡ refusedTable r → readTable bs ≡ refused r → (a ≡ answered (readTable bs)) × FitTable (a .table)
+unfolding answered refusedTable
+refused-answer bs a r is e = (is ∙ sym (ap answered e), subst FitTable (sym (ap (λ x. x .table) is)) no-lines-fit)

@@ -7,7 +7,7 @@ ghost use lib.ListN.{length, take, getD};
 ghost use Rattle.rules.specs.Refusals.{refusal, firstFault, faultOf};
 ghost use Rattle.rules.specs.BoothTable as page;
 ghost use Rattle.rules.specs.Admission as admission;
-ghost use Rattle.rules.specs.Values.{padded, heldLine, heldTable, lineHeld, linesHeld};
+ghost use Rattle.rules.specs.Values.{padded, heldLine, heldTable, no-held-line, lineHeld, linesHeld};
 ghost use Rattle.table.specs.Answer as said;
 ghost use Rattle.table.specs.Fit.{FitLine, FitLines, FitTable, Sounds};
 use rules::Fault;
@@ -202,6 +202,98 @@ fn read_records(bytes: &[u8]) -> Records
     let table = Table { booths, lines };
     Records {
         fault: Fault::Nothing,
+        table,
+    }
+}
+
+fn rounded_up(n: u32, m: u32) -> u32
+    requires { ⌜ (n ≤ 10000) × (0 < m) × (m ≤ 10000) ⌝ }
+    ensures { λ r. ⌜ (r ≡ admission.roundedUp n m) × (r ≤ 20000) ⌝ }
+{
+    (n + (m - 1)) / m
+}
+
+// What the booths before booth i ask of `r` wall ticks.
+fn asked_above(lines: [Line; 8], i: usize, r: u32) -> u32
+    requires { ⌜ FitLines lines i × (r ≤ 10000) ⌝ }
+    ensures { λ a. ⌜ (a ≡ admission.askedAbove (map lineHeld (take i lines)) r) × (a ≤ 1600000000) ⌝ }
+{
+    let mut asked: u32 = 0;
+    let mut j = 0;
+    while j < i {
+        let line = lines[j];
+        let promise = line.promise;
+        asked += promise.allowance * rounded_up(r, promise.period);
+        j += 1;
+    }
+    asked
+}
+
+// The response test: some whole R from 1 to T has room for the booth's B and what the booths before it ask.
+pub fn passes(lines: [Line; 8], i: usize) -> bool
+    requires { ⌜ FitLines lines (i + 1) ⌝ }
+    ensures { λ r. ⌜ r ≡ admission.passes (map lineHeld (take i lines)) (lineHeld (getD lines i no-held-line)) ⌝ }
+{
+    let line = lines[i];
+    let promise = line.promise;
+    let mut r = promise.period;
+    while 0 < r {
+        if promise.allowance + asked_above(lines, i, r) <= r {
+            return true;
+        }
+        r -= 1;
+    }
+    false
+}
+
+// Admission, booth 0 first.
+fn admission_fault(table: Table) -> Fault
+    requires { ⌜ FitTable table ⌝ }
+    ensures { λ r. ⌜ r ≡ faultOf (said.notAdmitted (admission.firstFailing [] (linesHeld table))) ⌝ }
+{
+    let lines = table.lines;
+    let booths = table.booths;
+    let mut i = 0;
+    while i < booths {
+        if !passes(lines, i) {
+            let line = lines[i];
+            return fault(7, line.start);
+        }
+        i += 1;
+    }
+    Fault::Nothing
+}
+
+fn refused(refusal: Refusal) -> TableAnswer
+    ensures { λ r. ⌜ r ≡ said.refusedTable refusal ⌝ }
+{
+    let records = no_records(Fault::Nothing);
+    let table = records.table;
+    TableAnswer { refusal, table }
+}
+
+// A booth table in any bytes, taken or refused.
+pub fn read_table(bytes: &[u8]) -> TableAnswer
+    ensures read { λ r. ⌜ r ≡ said.answered (admission.readTable (now (bytes .entry))) ⌝ }
+    ensures fit { λ r. ⌜ FitTable (r .table) ⌝ }
+{
+    if let Fault::Found(refusal) = header_fault(bytes) {
+        return refused(refusal);
+    }
+    let records = read_records(bytes);
+    let found = records.fault;
+    if let Fault::Found(refusal) = found {
+        return refused(refusal);
+    }
+    let table = records.table;
+    if let Fault::Found(refusal) = admission_fault(table) {
+        return refused(refusal);
+    }
+    TableAnswer {
+        refusal: Refusal {
+            number: 0,
+            place: 0,
+        },
         table,
     }
 }
