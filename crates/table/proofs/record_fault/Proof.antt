@@ -16,7 +16,7 @@ use Rattle.table.proofs.record_fault.Tie as tie
 use Rattle.table.proofs.record_fault.Reads as reads
 use Rattle.table.proofs.record_fault.Lts as lts
 use Rattle.rules.proofs.wide.Reads as wide-reads
-use Rattle.table.proofs.fault.Reads as fault-reads
+use Rattle.rules.proofs.fault_at.Reads as fault-at-reads
 use Rattle.table.proofs.line_at.Reads as line-at-reads
 use Rattle.table.proofs.line_fault.Reads as line-fault-reads
 
@@ -29,31 +29,31 @@ wide-requires c κs = search needs
 cast-l : tie.Need-cast-l
 cast-l c = search needs
 
-fault-requires : tie.Need-fault-requires
-fault-requires c κs = search needs
+fault-at-requires : tie.Need-fault-at-requires
+fault-at-requires c κs = search needs
 
 returns : tie.Need-returns
 unfolding recordChecks recordL firstFault refuseIf
 returns c =
     let L = getD (c .before .before .before .before .before .args .bytes .now) (c .before .before .before .before .before .args .at) 0 in
-    simp (c .fault .ensures, too-short L (omega (arith, c .before .before .wide .ensures)))
+    simp (c .fault-at .ensures, too-short L (omega (arith, c .before .before .wide .ensures)))
 
-fault-requires-2 : tie.Need-fault-requires-2
-fault-requires-2 c κs = search needs
+fault-at-requires-2 : tie.Need-fault-at-requires-2
+fault-at-requires-2 c κs = search needs
 
 returns-2 : tie.Need-returns-2
 unfolding recordChecks recordL firstFault refuseIf
 returns-2 c =
     let L = getD (c .before .before .before .before .before .before .args .bytes .now) (c .before .before .before .before .before .before .args .at) 0 in
-    simp (c .fault2 .ensures, too-long L (omega (arith, c .before .before .before .wide .ensures)))
+    simp (c .fault-at2 .ensures, too-long L (omega (arith, c .before .before .before .wide .ensures)))
 
-fault-requires-3 : tie.Need-fault-requires-3
-fault-requires-3 c κs = search needs
+fault-at-requires-3 : tie.Need-fault-at-requires-3
+fault-at-requires-3 c κs = search needs
 
 returns-3 : tie.Need-returns-3
 unfolding recordChecks recordL firstFault refuseIf
 returns-3 c =
-    simp (c .fault3 .ensures, odd (c .before .before .before .before .wide .result) (c .before .if3 .taken), ← (c .before .before .before .before .wide .ensures .0))
+    simp (c .fault-at3 .ensures, odd (c .before .before .before .before .wide .result) (c .before .if3 .taken), ← (c .before .before .before .before .wide .ensures .0))
 
 add-if4 : tie.Need-add-if4
 add-if4 c = search needs
@@ -61,8 +61,8 @@ add-if4 c = search needs
 add-if4-2 : tie.Need-add-if4-2
 add-if4-2 c = search needs
 
-fault-requires-4 : tie.Need-fault-requires-4
-fault-requires-4 c κs = search needs
+fault-at-requires-4 : tie.Need-fault-at-requires-4
+fault-at-requires-4 c κs = search needs
 
 returns-4 : tie.Need-returns-4
 unfolding recordChecks recordL recordEnd firstFault refuseIf
@@ -72,7 +72,7 @@ returns-4 c =
     let at = start .args .at in
     let w = c .before .before .before .before .before .wide in
     let fine : lengthAllowed (getD bs at 0) ≡ true = ap lengthAllowed (sym (w .ensures .0)) ∙ allowed (w .result) (omega arith) (omega arith) (c .before .before .if3 .left) in
-    simp (c .fault4 .ensures, fine, lt-ltb (length bs) (at + 1 + getD bs at 0) (omega (arith, w .ensures .0)))
+    simp (c .fault-at4 .ensures, fine, lt-ltb (length bs) (at + 1 + getD bs at 0) (omega (arith, w .ensures .0)))
 
 line-at-requires : tie.Need-line-at-requires
 line-at-requires c κs = search needs
@@ -103,15 +103,15 @@ record-fault-spec =
     shared-slice-read-wide
     wide-requires
     cast-l
-    fault-requires
+    fault-at-requires
     returns
-    fault-requires-2
+    fault-at-requires-2
     returns-2
-    fault-requires-3
+    fault-at-requires-3
     returns-3
     add-if4
     add-if4-2
-    fault-requires-4
+    fault-at-requires-4
     returns-4
     line-at-requires
     line-fault-requires
