@@ -209,7 +209,7 @@ pub fn read_log(table: Table, bytes: &[u8]) -> LogAnswer
 }
 
 // Entry i of an accepted log, read where it lies.
-pub fn entry(bytes: &[u8], i: usize) -> Entry
+pub fn entry_of(bytes: &[u8], i: usize) -> Entry
     requires { ⌜ (i < 4096) × (18 + 9 * i ≤ length (now bytes)) ⌝ }
     ensures { λ r. ⌜ r ≡ said.heldEntry (page.entryAt (now (bytes .entry)) (9 + 9 * i)) ⌝ }
 {
