@@ -1,1 +1,4 @@
 pub mod DueLaws
+pub mod Entries
+pub mod QuickSettle
+pub mod PageSettle
