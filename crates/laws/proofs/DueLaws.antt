@@ -29,7 +29,7 @@ module _ (p : Promise) (sound : Sound p) where
   inside k r h = rw (digits-div k h, digits-mod k h)
 
   -- k periods and r more ticks, r at most a period
-  due-at : (k r : ℕ) → r ≤ T → due p (k * T + r) ≡ k * B + min r B
+  pub due-at : (k r : ℕ) → r ≤ T → due p (k * T + r) ≡ k * B + min r B
   due-at k r h = go (eq-or-lt-of-le h)
     where
       go : (r ≡ T) ⊎ (r < T) → due p (k * T + r) ≡ k * B + min r B

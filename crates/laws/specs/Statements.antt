@@ -1,11 +1,15 @@
 -- What is proved of the rules of document 01. Each statement is a field; proofs/ has a proof of each.
 use mathlib.Core.Path.{_≡_}
+use mathlib.Core.List.{List, []}
 use Prim.Native.Nat.{ℕ, suc, _+_, _-_, _*_, _≤_, _<_, min}
+use lib.ListN.{getD}
 use Rattle.rules.specs.declared.Promise.{Promise}
-use Rattle.rules.specs.BoothTable.{Line}
+use Rattle.rules.specs.BoothTable.{Line, no-line}
 use Rattle.rules.specs.ArrivalLog.{Entry}
-use Rattle.rules.specs.Admission.{roundedUp}
+use Rattle.rules.specs.Admission.{roundedUp, askedAbove}
 use Rattle.rules.specs.Due.{due, releasePoint}
+use Rattle.rules.specs.Moves.{Booth}
+use Rattle.rules.specs.Session.{freshBooth, settledAt}
 
 -- a promise as the reader of the table lets it pass: T at least 1, B from 1 to T
 pub record Sound (p : Promise) : Type 0 where
@@ -27,3 +31,11 @@ pub record LawsOfDue : Type 0 where
   pub in-stretch : (p : Promise) → Sound p → (t L : ℕ) → due p (t + L) ≤ due p t + roundedUp L (p .period) * p .allowance
   -- release points of one booth never fall from an entry to a later one
   pub points-never-fall : (l : Line) → Sound (l .promise) → (e f : Entry) → e .tick ≤ f .tick → releasePoint l e ≤ releasePoint l f
+
+-- booth i settled at wall tick t
+abbrev pub boothAt : List Line → List Entry → ℕ → ℕ → Booth
+boothAt ls es t i = getD ((settledAt t ls es) .booths) i (freshBooth no-line [])
+
+-- some whole R from 1 to T has room for the booth's B and, for each booth above it, its B times R / T of that booth rounded up
+abbrev pub Passes : List Line → Line → Type 0
+Passes above l = (R : ℕ) × (1 ≤ R) × (R ≤ l .promise .period) × (l .promise .allowance + askedAbove above R ≤ R)
