@@ -1,7 +1,9 @@
 -- What is proved of the rules of document 01. Each statement is a field; proofs/ has a proof of each.
 use mathlib.Core.Path.{_≡_}
-use mathlib.Core.List.{List, []}
+use mathlib.Core.Bool.{true, false}
+use mathlib.Core.List.{List, [], _∷_}
 use Prim.Native.Nat.{ℕ, suc, _+_, _-_, _*_, _≤_, _<_, min}
+use lib.Dec.{eqb}
 use lib.ListN.{getD}
 use Rattle.rules.specs.declared.Promise.{Promise}
 use Rattle.rules.specs.BoothTable.{Line, no-line}
@@ -39,3 +41,8 @@ boothAt ls es t i = getD ((settledAt t ls es) .booths) i (freshBooth no-line [])
 -- some whole R from 1 to T has room for the booth's B and, for each booth above it, its B times R / T of that booth rounded up
 abbrev pub Passes : List Line → Line → Type 0
 Passes above l = (R : ℕ) × (1 ≤ R) × (R ≤ l .promise .period) × (l .promise .allowance + askedAbove above R ≤ R)
+
+-- what the entries of task k demand together
+unfoldable pub demandOf : ℕ → List Entry → ℕ
+demandOf k [] = 0
+demandOf k (e ∷ es) = elim (eqb (e .task) k) [ true ↦ e .demand + demandOf k es | false ↦ demandOf k es ]
