@@ -9,3 +9,5 @@ pub mod Clocks
 pub mod Counting
 pub mod Tasks
 pub mod Opening
+pub mod Rows
+pub mod WallRecord

@@ -46,3 +46,8 @@ Passes above l = (R : ℕ) × (1 ≤ R) × (R ≤ l .promise .period) × (l .pro
 unfoldable pub demandOf : ℕ → List Entry → ℕ
 demandOf k [] = 0
 demandOf k (e ∷ es) = elim (eqb (e .task) k) [ true ↦ e .demand + demandOf k es | false ↦ demandOf k es ]
+
+-- numbers of a list added up
+unfoldable pub total : List ℕ → ℕ
+total [] = 0
+total (n ∷ ns) = n + total ns
