@@ -11,3 +11,5 @@ pub mod Tasks
 pub mod Opening
 pub mod Rows
 pub mod WallRecord
+pub mod Checks
+pub mod Readers

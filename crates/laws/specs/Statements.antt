@@ -1,13 +1,13 @@
 -- What is proved of the rules of document 01. Each statement is a field; proofs/ has a proof of each.
 use mathlib.Core.Path.{_≡_}
-use mathlib.Core.Bool.{true, false}
+use mathlib.Core.Bool.{Bool, true, false}
 use mathlib.Core.List.{List, [], _∷_}
 use Prim.Native.Nat.{ℕ, suc, _+_, _-_, _*_, _≤_, _<_, min}
 use lib.Dec.{eqb}
-use lib.ListN.{getD}
+use lib.ListN.{length, getD}
 use Rattle.rules.specs.declared.Promise.{Promise}
-use Rattle.rules.specs.BoothTable.{Line, no-line}
-use Rattle.rules.specs.ArrivalLog.{Entry}
+use Rattle.rules.specs.BoothTable.{Line, no-line, someZero, longest-period, tasks-allowed}
+use Rattle.rules.specs.ArrivalLog.{Entry, longestJobs}
 use Rattle.rules.specs.Admission.{roundedUp, askedAbove}
 use Rattle.rules.specs.Due.{due, releasePoint}
 use Rattle.rules.specs.Moves.{Booth}
@@ -51,3 +51,19 @@ demandOf k (e ∷ es) = elim (eqb (e .task) k) [ true ↦ e .demand + demandOf k
 unfoldable pub total : List ℕ → ℕ
 total [] = 0
 total (n ∷ ns) = n + total ns
+
+-- a booth's line as the reader lets it pass: T from 1 to 10,000, B from 1 to T, 1 to 8 tasks, no longest job 0
+pub record GoodLine (l : Line) : Type 0 where
+  pub sound : Sound (l .promise)
+  pub short : l .promise .period ≤ longest-period
+  pub some-task : 1 ≤ length (l .longest)
+  pub few-tasks : length (l .longest) ≤ tasks-allowed
+  pub jobs : someZero (l .longest) ≡ false
+
+-- an entry as the reader lets it pass: tick below H, booth and task of the table, demand from 1 to the task's longest job
+pub record GoodEntry (ls : List Line) (H : ℕ) (e : Entry) : Type 0 where
+  pub tick : e .tick < H
+  pub booth : e .booth < length ls
+  pub task : e .task < length (longestJobs ls (e .booth))
+  pub some-demand : 1 ≤ e .demand
+  pub demand : e .demand ≤ getD (longestJobs ls (e .booth)) (e .task) 0
