@@ -164,3 +164,101 @@ not-seven bs r h = go (firstFault (headerChecks bs)) refl
     go : (f : Option Refusal) → firstFault (headerChecks bs) ≡ f → r .number ≢ not-admitted
     go (some x) q = subst (λ y. y .number ≢ not-admitted) (refused-once x r (rw (q, readLines) at h)) (says x q)
     go none q = not-seven-record booths-allowed bs 3 r (rw (q, readLines) at h)
+
+-- ---- the log
+
+good-entry : (ls : List Line) (H before : ℕ) (bs : List ℕ) (at : ℕ) → firstFault (entryChecks ls H before bs at) ≡ none
+    → GoodEntry ls H (entryAt bs at) × (before ≤ (entryAt bs at) .tick)
+unfolding entryChecks refuseIf
+good-entry ls H before bs at h =
+    let p = no-fault (entryChecks ls H before bs at) h in
+    let e = entryAt bs at in
+    let jobs = longestJobs ls (e .booth) in
+    let (late, early) = neither (leb H (e .tick)) (ltb (e .tick) before) (p .1 .1 .0) in
+    let (no-demand, much) = neither (eqb (e .demand) 0) (ltb (getD jobs (e .task) 0) (e .demand)) (p .1 .1 .1 .1 .1 .0) in (
+      record {
+        tick = leb-false H (e .tick) late;
+        booth = leb-false (length ls) (e .booth) (p .1 .1 .1 .0);
+        task = leb-false (length jobs) (e .task) (p .1 .1 .1 .1 .0);
+        some-demand = positive (e .demand) (eqb-false (e .demand) 0 no-demand);
+        demand = ltb-false (getD jobs (e .task) 0) (e .demand) much;
+      },
+      ltb-false (e .tick) before early,
+    )
+
+with-entry : (e : Entry) (t : Taken (List Entry)) (es : List Entry) → withEntry e t ≡ taken es → (fs : List Entry) × (t ≡ taken fs) × (e ∷ fs ≡ es)
+unfolding withEntry
+with-entry e (taken fs) es h = (fs, refl, taken-once (e ∷ fs) es h)
+with-entry e (refused r) es h = absurd (taken-or-refused es r h)
+
+-- entries read after one at the tick `before`, with room for so many
+pub record Entries (room : ℕ) (ls : List Line) (H before : ℕ) (es : List Entry) : Type 0 where
+  pub few : length es ≤ room
+  pub good : All (GoodEntry ls H) es
+  pub after : From before es
+  pub sorted : Sorted es
+
+no-entries : (room : ℕ) (ls : List Line) (H before : ℕ) → Entries room ls H before []
+no-entries room ls H before = record { few = omega arith; good = tt; after = tt; sorted = tt }
+
+from-earlier : (s t : ℕ) (es : List Entry) → s ≤ t → From t es → From s es
+from-earlier s t [] h f = tt
+from-earlier s t (e ∷ es) h f = (omega (arith, f .0), from-earlier s t es h (f .1))
+
+read-entries : (room : ℕ) (ls : List Line) (H before : ℕ) (bs : List ℕ) (at : ℕ) (es : List Entry) → readEntries room ls H before bs at ≡ taken es
+    → Entries room ls H before es
+unfolding readEntries
+read-entries zero ls H before bs at es h = go (leb (length bs) at) refl
+  where
+    go : (c : Bool) → leb (length bs) at ≡ c → Entries 0 ls H before es
+    go true q = subst (Entries 0 ls H before) (taken-once [] es (rw (q, readEntries) at h)) (no-entries 0 ls H before)
+    go false q = absurd (taken-or-refused es _ (rw (q, readEntries) at h))
+read-entries (suc room) ls H before bs at es h =
+    go (λ fs x. read-entries room ls H (e .tick) bs (at + entry-bytes) fs x) (leb (length bs) at) refl (firstFault (entryChecks ls H before bs at)) refl
+  where
+    e : Entry
+    e = entryAt bs at
+
+    rest : Taken (List Entry)
+    rest = readEntries room ls H (e .tick) bs (at + entry-bytes)
+
+    more : ((fs : List Entry) → rest ≡ taken fs → Entries room ls H (e .tick) fs) → firstFault (entryChecks ls H before bs at) ≡ none
+        → (fs : List Entry) × (rest ≡ taken fs) × (e ∷ fs ≡ es) → Entries (suc room) ls H before es
+    more ih f (fs, x, y) =
+        let r = ih fs x in
+        let (g, b) = good-entry ls H before bs at f in
+        subst (Entries (suc room) ls H before) y (record {
+          few = omega (arith, r .few);
+          good = (g, r .good);
+          after = (b, from-earlier before (e .tick) fs b (r .after));
+          sorted = (r .after, r .sorted);
+        })
+
+    go : ((fs : List Entry) → rest ≡ taken fs → Entries room ls H (e .tick) fs) → (c : Bool) → leb (length bs) at ≡ c
+        → (f : Option Refusal) → firstFault (entryChecks ls H before bs at) ≡ f → Entries (suc room) ls H before es
+    go ih true q f p = subst (Entries (suc room) ls H before) (taken-once [] es (rw (q, readEntries) at h)) (no-entries (suc room) ls H before)
+    go ih false q (some r) p = absurd (taken-or-refused es r (rw p at (rw (q, readEntries) at h)))
+    go ih false q none p = more ih p (with-entry e rest es (rw p at (rw (q, readEntries) at h)))
+
+-- a log over the lines of its table: H up to 1,000,000, at most 4,096 entries in order, each in range
+pub record LogRead (ls : List Line) (log : Log) : Type 0 where
+  pub short : log .horizon ≤ longest-session
+  pub few-entries : length (log .entries) ≤ entries-allowed
+  pub good : All (GoodEntry ls (log .horizon)) (log .entries)
+  pub sorted : Sorted (log .entries)
+
+horizon-short : (bs : List ℕ) → firstFault (logHeaderChecks bs) ≡ none → logH bs ≤ longest-session
+unfolding logHeaderChecks refuseIf
+horizon-short bs h = let p = no-fault (logHeaderChecks bs) h in ltb-false longest-session (logH bs) (p .1 .1 .1 .1 .1 .1 .1 .0)
+
+pub read-log : (ls : List Line) (bs : List ℕ) (log : Log) → readLog ls bs ≡ taken log → LogRead ls log
+unfolding readLog withHorizon
+read-log ls bs log h = go (firstFault (logHeaderChecks bs)) refl (readEntries entries-allowed ls (logH bs) 0 bs 9) refl
+  where
+    go : (f : Option Refusal) → firstFault (logHeaderChecks bs) ≡ f → (t : Taken (List Entry)) → readEntries entries-allowed ls (logH bs) 0 bs 9 ≡ t → LogRead ls log
+    go (some r) q t p = absurd (taken-or-refused log r (rw (q, readLog) at h))
+    go none q (refused r) p = absurd (taken-or-refused log r (rw p at (rw (q, readLog) at h)))
+    go none q (taken es) p =
+        let r = read-entries entries-allowed ls (logH bs) 0 bs 9 es p in
+        subst (LogRead ls) (taken-once (record { horizon = logH bs; entries = es }) log (rw p at (rw (q, readLog) at h)))
+        (record { short = horizon-short bs q; few-entries = r .few; good = r .good; sorted = r .sorted })
