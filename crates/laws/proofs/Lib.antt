@@ -13,3 +13,4 @@ pub mod Rows
 pub mod WallRecord
 pub mod Checks
 pub mod Readers
+pub mod Admitted

@@ -1,14 +1,16 @@
 -- What is proved of the rules of document 01. Each statement is a field; proofs/ has a proof of each.
 use mathlib.Core.Path.{_≡_}
+use mathlib.Core.Logic.{_⊎_, _↔_}
 use mathlib.Core.Bool.{Bool, true, false}
 use mathlib.Core.List.{List, [], _∷_}
 use Prim.Native.Nat.{ℕ, suc, _+_, _-_, _*_, _≤_, _<_, min}
 use lib.Dec.{eqb}
-use lib.ListN.{length, getD}
+use lib.ListN.{length, getD, take}
 use Rattle.rules.specs.declared.Promise.{Promise}
-use Rattle.rules.specs.BoothTable.{Line, no-line, someZero, longest-period, tasks-allowed}
+use Rattle.rules.specs.Refusals.{taken, refused, refusal, not-admitted}
+use Rattle.rules.specs.BoothTable.{Line, no-line, readLines, someZero, longest-period, tasks-allowed}
 use Rattle.rules.specs.ArrivalLog.{Entry, longestJobs}
-use Rattle.rules.specs.Admission.{roundedUp, askedAbove}
+use Rattle.rules.specs.Admission.{roundedUp, askedAbove, readTable}
 use Rattle.rules.specs.Due.{due, releasePoint}
 use Rattle.rules.specs.Moves.{Booth}
 use Rattle.rules.specs.Session.{freshBooth, settledAt}
@@ -67,3 +69,17 @@ pub record GoodEntry (ls : List Line) (H : ℕ) (e : Entry) : Type 0 where
   pub task : e .task < length (longestJobs ls (e .booth))
   pub some-demand : 1 ≤ e .demand
   pub demand : e .demand ≤ getD (longestJobs ls (e .booth)) (e .task) 0
+
+-- booth i is the first that has no such R
+pub record FirstFails (ls : List Line) (i : ℕ) : Type 0 where
+  pub there : i < length ls
+  pub before : (j : ℕ) → j < i → Passes (take j ls) (getD ls j no-line)
+  pub fails : ¬ (Passes (take i ls) (getD ls i no-line))
+
+-- 6. Admission
+pub record Admission : Type 0 where
+  -- a table is taken exactly when its records are in order and every booth passes
+  pub admits : (bs : List ℕ) (ls : List Line) → (readTable bs ≡ taken ls) ↔ ((readLines bs ≡ taken ls) × ((i : ℕ) → i < length ls → Passes (take i ls) (getD ls i no-line)))
+  -- it is refused with 7 exactly when its records are in order and some booth fails, and the place is the record start of the first that fails
+  pub refuses : (bs : List ℕ) (at : ℕ) → (readTable bs ≡ refused (refusal not-admitted at))
+      ↔ ((ls : List Line) × (i : ℕ) × (readLines bs ≡ taken ls) × FirstFails ls i × ((getD ls i no-line) .start ≡ at))
