@@ -64,6 +64,11 @@ module _ (p : Promise) (sound : Sound p) where
       let e : s + (t - s) ≡ t = omega arith in
       rw e at (due-later s (t - s))
 
+  -- no more is due than ticks have passed
+  pub due-at-most : (t : ℕ) → due p t ≤ t
+  due-at-most zero = omega (arith, due-zero p)
+  due-at-most (suc t) = omega (arith, due-at-most t, due-step t)
+
   -- whole periods later
   due-periods : (t q : ℕ) → due p (t + q * T) ≡ due p t + q * B
   due-periods t q =

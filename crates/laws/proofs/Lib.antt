@@ -14,3 +14,5 @@ pub mod WallRecord
 pub mod Checks
 pub mod Readers
 pub mod Admitted
+pub mod LentRows
+pub mod SoloAlike
