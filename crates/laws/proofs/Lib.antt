@@ -16,3 +16,4 @@ pub mod Readers
 pub mod Admitted
 pub mod LentRows
 pub mod SoloAlike
+pub mod Answered

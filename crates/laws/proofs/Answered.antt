@@ -1,0 +1,168 @@
+-- What an accepted session answers and leaves in the lent records, booth by booth. Assumes nothing.
+use mathlib.Core.Path.{_≡_, refl, sym, ap, _∙_, subst}
+use mathlib.Core.List.{List, [], _∷_, _++_, map}
+use mathlib.Core.Option.{Option, none, some}
+use Prim.Native.Nat.{ℕ, zero, suc, _+_, _*_, _≤_, _<_}
+use native.Mathlib.Nat.{zero-add, not-suc-le-zero, le-of-suc-le-suc}
+use native.Mathlib.Omega.{arith}
+use lib.Dec.{ltb}
+use lib.ListN.{length, getD, take, drop, length-map}
+use lib.Seq.{take-append-seam, getD-take}
+use borrow.Author.Tests.{ltb-false}
+use Rattle.rules.specs.declared.Refusal.{Refusal}
+use Rattle.rules.specs.declared.Refused.{Refused}
+use Rattle.rules.specs.declared.Refused.the-variants.{Nothing, TheTable, TheLog, TheCall}
+use Rattle.rules.specs.Bytes.{written}
+use Rattle.rules.specs.Refusals.{Taken, taken, refused, refuseIf, firstFault, accepted, refusedAs}
+use Rattle.rules.specs.BoothTable.{Line, no-line, booths-allowed, tasks-allowed}
+use Rattle.rules.specs.ArrivalLog.{Entry, Log, readLog}
+use Rattle.rules.specs.Admission.{readTable}
+use Rattle.rules.specs.Due.{due}
+use Rattle.rules.specs.Moves.{Booth, nobody}
+use Rattle.rules.specs.Session.{Outcome, count, workedFrom, writeRows, freshBooth, settledAt, nothingDone, bufferChecks, played, session}
+use Rattle.laws.specs.Statements.{GoodLine, Passes, Accepted, outcome, booths, ticks, lineOf, clockOf, rowOf, wallOf, settledOf}
+use Rattle.laws.proofs.DueLaws.{due-at-most}
+use Rattle.laws.proofs.Checks.{no-fault}
+use Rattle.laws.proofs.Readers.{All, all-at, Lines, read-lines, LogRead, read-log}
+use Rattle.laws.proofs.Admitted.{read-table}
+use Rattle.laws.proofs.Run.{AsRead, getD-map, length-booths}
+use Rattle.laws.proofs.Clocks.{never-ahead}
+use Rattle.laws.proofs.Rows.{row-length}
+use Rattle.laws.proofs.WallRecord.{length-wall}
+use Rattle.laws.proofs.LentRows.{ShortRows, row-back}
+
+-- ---- what the answer 0 says
+
+not-nothing : (what : Refused) (r : Refusal) → refusedAs what r ≡ accepted → what ≡ Nothing
+unfolding refusedAs accepted
+not-nothing what r h = ap (λ v. v .refused) h
+
+table-taken : (r : Refusal) (A : Type 0) → refusedAs TheTable r ≡ accepted → A
+table-taken r A h = let e = not-nothing TheTable r h in let z : _≡_ {A = ℕ} 0 1 = cc in absurd (omega arith)
+
+log-taken : (r : Refusal) (A : Type 0) → refusedAs TheLog r ≡ accepted → A
+log-taken r A h = let e = not-nothing TheLog r h in let z : _≡_ {A = ℕ} 0 1 = cc in absurd (omega arith)
+
+call-taken : (r : Refusal) (A : Type 0) → refusedAs TheCall r ≡ accepted → A
+call-taken r A h = let e = not-nothing TheCall r h in let z : _≡_ {A = ℕ} 0 1 = cc in absurd (omega arith)
+
+pub has-read : (tableBytes logBytes wall own : List ℕ) → (session tableBytes logBytes wall own) .verdict ≡ accepted
+    → (ls : List Line) × (log : Log) × (readTable tableBytes ≡ taken ls) × (readLog ls logBytes ≡ taken log)
+unfolding session nothingDone
+has-read tableBytes logBytes wall own h = the-table (readTable tableBytes) refl
+  where
+    Read : Type 0
+    Read = (ls : List Line) × (log : Log) × (readTable tableBytes ≡ taken ls) × (readLog ls logBytes ≡ taken log)
+
+    the-log : (ls : List Line) → readTable tableBytes ≡ taken ls → (t : Taken Log) → readLog ls logBytes ≡ t → Read
+    the-log ls q (refused r) p = log-taken r Read (rw p at (rw (q, session) at h))
+    the-log ls q (taken log) p = (ls, log, q, p)
+
+    the-table : (t : Taken (List Line)) → readTable tableBytes ≡ t → Read
+    the-table (refused r) q = table-taken r Read (rw (q, session) at h)
+    the-table (taken ls) q = the-log ls q (readLog ls logBytes) refl
+
+module _ (s : Accepted) where
+  abbrev H : ℕ
+  H = ticks s
+
+  abbrev ls : List Line
+  ls = s .table
+
+  abbrev es : List Entry
+  es = s .log .entries
+
+  -- the buffers fit, and the session is played
+  record Played : Type 0 where
+    is : outcome s ≡ played ls (s .log) (s .wallLent) (s .ownLent)
+    wall-fits : H ≤ length (s .wallLent)
+    own-fits : booths s * H ≤ length (s .ownLent)
+
+  is-played : Played
+  unfolding session nothingDone bufferChecks refuseIf
+  is-played = go (firstFault (bufferChecks (length ls) H (s .wallLent) (s .ownLent))) refl
+    where
+      go : (f : Option Refusal) → firstFault (bufferChecks (length ls) H (s .wallLent) (s .ownLent)) ≡ f → Played
+      go (some r) q = call-taken r Played (rw q at (rw (s .log-read) at (rw (s .table-read, session) at (s .accepts))))
+      go none q =
+          let p = no-fault (bufferChecks (length ls) H (s .wallLent) (s .ownLent)) q in
+          record {
+            is = rw (s .table-read, session) (rw (s .log-read) (rw q));
+            wall-fits = ltb-false (length (s .wallLent)) H (p .0);
+            own-fits = ltb-false (length (s .ownLent)) (length ls * H) (p .1 .0);
+          }
+
+  pub room : (H ≤ length (s .wallLent)) × (booths s * H ≤ length (s .ownLent))
+  room = let p = is-played in (p .wall-fits, p .own-fits)
+
+  -- ---- the table and the log
+
+  pub lines-read : Lines ls
+  lines-read = read-lines (s .tableBytes) ls ((read-table (s .tableBytes) ls (s .table-read)) .0)
+
+  pub log-is-read : LogRead ls (s .log)
+  log-is-read = read-log ls (s .logBytes) (s .log) (s .log-read)
+
+  pub good-line : (i : ℕ) → i < booths s → GoodLine (lineOf s i)
+  good-line i h = all-at GoodLine ls no-line (lines-read .good) i h
+
+  pub passing : (i : ℕ) → i < booths s → Passes (take i ls) (lineOf s i)
+  passing i h = (read-table (s .tableBytes) ls (s .table-read)) .1 i h
+
+  pub as-read : AsRead ls es
+  as-read =
+      record {
+        few = omega (arith, lines-read .few-booths);
+        sound = λ j h. (good-line j h) .sound;
+        tasks = λ j h. omega (arith, (good-line j h) .few-tasks);
+        sorted = log-is-read .sorted;
+      }
+
+  -- ---- the figures
+
+  pub clock-is : (i : ℕ) → i < booths s → clockOf s i ≡ (settledOf s H i) .u
+  unfolding played
+  clock-is i h =
+      ap (λ o. getD (o .clocks) i 0) (is-played .is)
+      ∙ getD-map (λ b. b .u) ((settledAt H ls es) .booths) i (freshBooth no-line []) 0 (omega (arith, length-booths ls es H))
+
+  pub clocks-length : length ((outcome s) .clocks) ≡ booths s
+  unfolding played
+  clocks-length = ap (λ o. length (o .clocks)) (is-played .is) ∙ length-map ((settledAt H ls es) .booths) (λ b. b .u) ∙ length-booths ls es H
+
+  pub worked-is : (outcome s) .worked ≡ workedFrom 0 (booths s) ((settledAt H ls es) .wall)
+  unfolding played
+  worked-is = ap (λ o. o .worked) (is-played .is)
+
+  pub idle-is : (outcome s) .idle ≡ count nobody ((settledAt H ls es) .wall)
+  unfolding played
+  idle-is = ap (λ o. o .idle) (is-played .is)
+
+  -- ---- the lent records
+
+  pub wall-is : wallOf s ≡ (settledAt H ls es) .wall
+  unfolding played written
+  wall-is =
+      let w = (settledAt H ls es) .wall in
+      ap (λ o. take H (o .wall)) (is-played .is)
+      ∙ ap (λ n. take n (w ++ drop (0 + length w) (s .wallLent))) (sym (length-wall ls es H))
+      ∙ take-append-seam w (drop (0 + length w) (s .wallLent))
+
+  short-rows : (bs : List Booth) → ((j : ℕ) → j < length bs → length ((getD bs j (freshBooth no-line [])) .row) ≤ H) → ShortRows H bs
+  short-rows [] h = tt
+  short-rows (b ∷ bs) h = (h 0 (omega arith), short-rows bs (λ j k. h (suc j) (omega arith)))
+
+  row-short : (j : ℕ) → j < booths s → length ((settledOf s H j) .row) ≤ H
+  row-short j h =
+      omega (arith, row-length ls es as-read j h H, never-ahead ls es as-read j h H, due-at-most ((lineOf s j) .promise) ((good-line j h) .sound) H)
+
+  pub row-is : (i : ℕ) → i < booths s → rowOf s i ≡ (settledOf s H i) .row
+  unfolding played
+  row-is i h =
+      let n : length ((settledAt H ls es) .booths) ≡ booths s = length-booths ls es H in
+      let fits : (0 + length ((settledAt H ls es) .booths)) * H ≤ length (s .ownLent) = rw (zero-add (length ((settledAt H ls es) .booths)), n) (is-played .own-fits) in
+      ap (λ o. take (clockOf s i) (drop (i * H) (o .own))) (is-played .is)
+      ∙ ap (λ u. take u (drop (i * H) (writeRows H 0 ((settledAt H ls es) .booths) (s .ownLent)))) (clock-is i h ∙ sym (row-length ls es as-read i h H))
+      ∙ ap (λ x. take (length ((settledOf s H i) .row)) (drop (x * H) (writeRows H 0 ((settledAt H ls es) .booths) (s .ownLent)))) (sym (zero-add i))
+      ∙ row-back H 0 ((settledAt H ls es) .booths) (s .ownLent) (freshBooth no-line []) i
+      (short-rows ((settledAt H ls es) .booths) (λ j k. row-short j (omega arith))) fits (omega arith)
