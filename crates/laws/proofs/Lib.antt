@@ -17,3 +17,4 @@ pub mod Admitted
 pub mod LentRows
 pub mod SoloAlike
 pub mod Answered
+pub mod Theorems

@@ -68,6 +68,11 @@ worked-at k zero wall i h = absurd (not-suc-le-zero h)
 worked-at k (suc n) wall zero h = ap (λ x. count x wall) (omega arith)
 worked-at k (suc n) wall (suc i) h = worked-at (suc k) n wall i (le-of-suc-le-suc h) ∙ ap (λ x. count x wall) (omega arith)
 
+pub length-worked : (k n : ℕ) (wall : List ℕ) → length (workedFrom k n wall) ≡ n
+unfolding workedFrom
+length-worked k zero wall = refl
+length-worked k (suc n) wall = ap suc (length-worked (suc k) n wall)
+
 -- ---- the run's record
 
 module _ (ls : List Line) (es : List Entry) where
