@@ -18,3 +18,4 @@ pub mod LentRows
 pub mod SoloAlike
 pub mod Answered
 pub mod Theorems
+pub mod AuditionLaws
