@@ -156,6 +156,15 @@ refuses bs at h = lines (readLines bs) refl
         absurd (not-seven bs r q (ap (λ x. x .number) e))
     lines (taken ls) q = tested ls q (firstFailing [] ls) refl
 
+some-fails : (bs : List ℕ) (ls : List Line) (i : ℕ) → readLines bs ≡ taken ls → i < length ls → ¬ (Passes (take i ls) (getD ls i no-line))
+    → (at : ℕ) × (readTable bs ≡ refused (refusal not-admitted at))
+unfolding readTable
+some-fails bs ls i q h f = go (firstFailing [] ls) refl
+  where
+    go : (x : Option ℕ) → firstFailing [] ls ≡ x → (at : ℕ) × (readTable bs ≡ refused (refusal not-admitted at))
+    go none p = absurd (f (all-pass [] ls p i h))
+    go (some at) p = (at, rw (q, readTable) (rw p))
+
 -- of two first ones neither stands before the other
 first-once : (ls : List Line) (i j : ℕ) → FirstFails ls i → FirstFails ls j → i ≡ j
 first-once ls i j a b = go (decLt i j) (decLt j i)
@@ -180,5 +189,6 @@ pub admission : Admission
 admission =
     record {
       admits = λ bs ls. (λ h. read-table bs ls h, λ (q, all). admits bs ls q all);
+      some-fails = some-fails;
       refuses = λ bs at. (λ h. refuses bs at h, λ (ls, i, q, f, e). subst (λ x. readTable bs ≡ refused (refusal not-admitted x)) e (fails-refused bs ls i q f));
     }

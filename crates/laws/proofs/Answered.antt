@@ -8,7 +8,7 @@ use native.Mathlib.Omega.{arith}
 use lib.Dec.{ltb}
 use lib.ListN.{length, getD, take, drop, length-map}
 use lib.Seq.{take-append-seam, getD-take}
-use borrow.Author.Tests.{ltb-false}
+use borrow.Author.Tests.{ltb-false, le-ltb}
 use Rattle.rules.specs.declared.Refusal.{Refusal}
 use Rattle.rules.specs.declared.Refused.{Refused}
 use Rattle.rules.specs.declared.Refused.the-variants.{Nothing, TheTable, TheLog, TheCall}
@@ -33,18 +33,19 @@ use Rattle.laws.proofs.LentRows.{ShortRows, row-back}
 
 -- ---- what the answer 0 says
 
-not-nothing : (what : Refused) (r : Refusal) → refusedAs what r ≡ accepted → what ≡ Nothing
+-- a refusal of something is no acceptance
+not-accepted : (what : Refused) → (what ≡ Nothing → ⊥) → (r : Refusal) → ¬ (refusedAs what r ≡ accepted)
 unfolding refusedAs accepted
-not-nothing what r h = ap (λ v. v .refused) h
+not-accepted what n r h = n (ap (λ v. v .refused) h)
 
-table-taken : (r : Refusal) (A : Type 0) → refusedAs TheTable r ≡ accepted → A
-table-taken r A h = let e = not-nothing TheTable r h in let z : _≡_ {A = ℕ} 0 1 = cc in absurd (omega arith)
+no-table : (r : Refusal) → ¬ (refusedAs TheTable r ≡ accepted)
+no-table = not-accepted TheTable (λ e. let z : _≡_ {A = ℕ} 0 1 = cc in omega arith)
 
-log-taken : (r : Refusal) (A : Type 0) → refusedAs TheLog r ≡ accepted → A
-log-taken r A h = let e = not-nothing TheLog r h in let z : _≡_ {A = ℕ} 0 1 = cc in absurd (omega arith)
+no-log : (r : Refusal) → ¬ (refusedAs TheLog r ≡ accepted)
+no-log = not-accepted TheLog (λ e. let z : _≡_ {A = ℕ} 0 1 = cc in omega arith)
 
-call-taken : (r : Refusal) (A : Type 0) → refusedAs TheCall r ≡ accepted → A
-call-taken r A h = let e = not-nothing TheCall r h in let z : _≡_ {A = ℕ} 0 1 = cc in absurd (omega arith)
+no-room : (r : Refusal) → ¬ (refusedAs TheCall r ≡ accepted)
+no-room = not-accepted TheCall (λ e. let z : _≡_ {A = ℕ} 0 1 = cc in omega arith)
 
 pub has-read : (tableBytes logBytes wall own : List ℕ) → (session tableBytes logBytes wall own) .verdict ≡ accepted
     → (ls : List Line) × (log : Log) × (readTable tableBytes ≡ taken ls) × (readLog ls logBytes ≡ taken log)
@@ -55,12 +56,18 @@ has-read tableBytes logBytes wall own h = the-table (readTable tableBytes) refl
     Read = (ls : List Line) × (log : Log) × (readTable tableBytes ≡ taken ls) × (readLog ls logBytes ≡ taken log)
 
     the-log : (ls : List Line) → readTable tableBytes ≡ taken ls → (t : Taken Log) → readLog ls logBytes ≡ t → Read
-    the-log ls q (refused r) p = log-taken r Read (rw p at (rw (q, session) at h))
+    the-log ls q (refused r) p = absurd (no-log r (rw p at (rw (q, session) at h)))
     the-log ls q (taken log) p = (ls, log, q, p)
 
     the-table : (t : Taken (List Line)) → readTable tableBytes ≡ t → Read
-    the-table (refused r) q = table-taken r Read (rw (q, session) at h)
+    the-table (refused r) q = absurd (no-table r (rw (q, session) at h))
     the-table (taken ls) q = the-log ls q (readLog ls logBytes) refl
+
+pub answers : (tableBytes logBytes wall own : List ℕ) (ls : List Line) (log : Log) → readTable tableBytes ≡ taken ls → readLog ls logBytes ≡ taken log
+    → log .horizon ≤ length wall → length ls * log .horizon ≤ length own → (session tableBytes logBytes wall own) .verdict ≡ accepted
+unfolding session played bufferChecks refuseIf firstFault
+answers tableBytes logBytes wall own ls log q p w o =
+    rw (q, session) (rw p (rw (le-ltb (length wall) (log .horizon) w, le-ltb (length own) (length ls * log .horizon) o)))
 
 module _ (s : Accepted) where
   abbrev H : ℕ
@@ -83,7 +90,7 @@ module _ (s : Accepted) where
   is-played = go (firstFault (bufferChecks (length ls) H (s .wallLent) (s .ownLent))) refl
     where
       go : (f : Option Refusal) → firstFault (bufferChecks (length ls) H (s .wallLent) (s .ownLent)) ≡ f → Played
-      go (some r) q = call-taken r Played (rw q at (rw (s .log-read) at (rw (s .table-read, session) at (s .accepts))))
+      go (some r) q = absurd (no-room r (rw q at (rw (s .log-read) at (rw (s .table-read, session) at (s .accepts)))))
       go none q =
           let p = no-fault (bufferChecks (length ls) H (s .wallLent) (s .ownLent)) q in
           record {

@@ -114,6 +114,9 @@ pub record WhatIsAccepted : Type 0 where
   -- a session that answers 0 has read a table and a log
   pub has-read : (tableBytes logBytes wall own : List ℕ) → (session tableBytes logBytes wall own) .verdict ≡ accepted
       → (ls : List Line) × (log : Log) × (readTable tableBytes ≡ taken ls) × (readLog ls logBytes ≡ taken log)
+  -- and one that has read both, with room in the lent records, answers 0
+  pub answers : (tableBytes logBytes wall own : List ℕ) (ls : List Line) (log : Log) → readTable tableBytes ≡ taken ls → readLog ls logBytes ≡ taken log
+      → log .horizon ≤ length wall → length ls * log .horizon ≤ length own → (session tableBytes logBytes wall own) .verdict ≡ accepted
   -- 1 to 8 booths, each line in range
   pub few-booths : (s : Accepted) → (1 ≤ booths s) × (booths s ≤ booths-allowed)
   pub lines : (s : Accepted) (i : ℕ) → i < booths s → GoodLine (lineOf s i)
@@ -207,7 +210,10 @@ pub record FirstFails (ls : List Line) (i : ℕ) : Type 0 where
 pub record Admission : Type 0 where
   -- a table is taken exactly when its records are in order and every booth passes
   pub admits : (bs : List ℕ) (ls : List Line) → (readTable bs ≡ taken ls) ↔ ((readLines bs ≡ taken ls) × ((i : ℕ) → i < length ls → Passes (take i ls) (getD ls i no-line)))
-  -- it is refused with 7 exactly when its records are in order and some booth fails, and the place is the record start of the first that fails
+  -- records in order of which some booth fails are refused with 7
+  pub some-fails : (bs : List ℕ) (ls : List Line) (i : ℕ) → readLines bs ≡ taken ls → i < length ls → ¬ (Passes (take i ls) (getD ls i no-line))
+      → (at : ℕ) × (readTable bs ≡ refused (refusal not-admitted at))
+  -- 7 is said exactly then, and its place is the record start of the first booth that fails
   pub refuses : (bs : List ℕ) (at : ℕ) → (readTable bs ≡ refused (refusal not-admitted at))
       ↔ ((ls : List Line) × (i : ℕ) × (readLines bs ≡ taken ls) × FirstFails ls i × ((getD ls i no-line) .start ≡ at))
 
