@@ -1,6 +1,7 @@
 -- What an accepted session answers and leaves in the lent records, booth by booth. Assumes nothing.
 use mathlib.Core.Path.{_≡_, refl, sym, ap, _∙_, subst}
-use mathlib.Core.List.{List, [], _∷_, _++_, map}
+use mathlib.Core.Logic.{inl, inr}
+use mathlib.Core.List.{List, [], _∷_, _++_}
 use mathlib.Core.Option.{Option, none, some}
 use Prim.Native.Nat.{ℕ, zero, suc, _+_, _*_, _≤_, _<_}
 use native.Mathlib.Nat.{zero-add, not-suc-le-zero, le-of-suc-le-suc}
@@ -29,7 +30,7 @@ use Rattle.laws.proofs.Run.{AsRead, getD-map, length-booths}
 use Rattle.laws.proofs.Clocks.{never-ahead}
 use Rattle.laws.proofs.Rows.{row-length}
 use Rattle.laws.proofs.WallRecord.{length-wall}
-use Rattle.laws.proofs.LentRows.{ShortRows, row-back}
+use Rattle.laws.proofs.LentRows.{length-written, kept-outside, ShortRows, Outside, row-back, rows-outside, length-rows, behind-rows, between-rows}
 
 -- ---- what the answer 0 says
 
@@ -163,13 +164,53 @@ module _ (s : Accepted) where
   row-short j h =
       omega (arith, row-length ls es as-read j h H, never-ahead ls es as-read j h H, due-at-most ((lineOf s j) .promise) ((good-line j h) .sound) H)
 
-  pub row-is : (i : ℕ) → i < booths s → rowOf s i ≡ (settledOf s H i) .row
+  -- the booths settled at H, whose rows are short and fit
+  abbrev last : List Booth
+  last = (settledAt H ls es) .booths
+
+  rows-short : ShortRows H last
+  rows-short = short-rows last (λ j k. row-short j (omega (arith, length-booths ls es H)))
+
+  rows-fit : (0 + length last) * H ≤ length (s .ownLent)
+  rows-fit = rw (zero-add (length last), length-booths ls es H) (is-played .own-fits)
+
+  own-is : (outcome s) .own ≡ writeRows H 0 last (s .ownLent)
   unfolding played
+  own-is = ap (λ o. o .own) (is-played .is)
+
+  pub row-is : (i : ℕ) → i < booths s → rowOf s i ≡ (settledOf s H i) .row
   row-is i h =
-      let n : length ((settledAt H ls es) .booths) ≡ booths s = length-booths ls es H in
-      let fits : (0 + length ((settledAt H ls es) .booths)) * H ≤ length (s .ownLent) = rw (zero-add (length ((settledAt H ls es) .booths)), n) (is-played .own-fits) in
-      ap (λ o. take (clockOf s i) (drop (i * H) (o .own))) (is-played .is)
-      ∙ ap (λ u. take u (drop (i * H) (writeRows H 0 ((settledAt H ls es) .booths) (s .ownLent)))) (clock-is i h ∙ sym (row-length ls es as-read i h H))
-      ∙ ap (λ x. take (length ((settledOf s H i) .row)) (drop (x * H) (writeRows H 0 ((settledAt H ls es) .booths) (s .ownLent)))) (sym (zero-add i))
-      ∙ row-back H 0 ((settledAt H ls es) .booths) (s .ownLent) (freshBooth no-line []) i
-      (short-rows ((settledAt H ls es) .booths) (λ j k. row-short j (omega arith))) fits (omega arith)
+      ap (λ o. take (clockOf s i) (drop (i * H) o)) own-is
+      ∙ ap (λ u. take u (drop (i * H) (writeRows H 0 last (s .ownLent)))) (clock-is i h ∙ sym (row-length ls es as-read i h H))
+      ∙ ap (λ x. take (length ((settledOf s H i) .row)) (drop (x * H) (writeRows H 0 last (s .ownLent)))) (sym (zero-add i))
+      ∙ row-back H 0 last (s .ownLent) (freshBooth no-line []) i rows-short rows-fit (omega (arith, length-booths ls es H))
+
+  -- ---- what keeps what it held
+
+  all-wall : (outcome s) .wall ≡ written 0 ((settledAt H ls es) .wall) (s .wallLent)
+  unfolding played
+  all-wall = ap (λ o. o .wall) (is-played .is)
+
+  wall-fits : 0 + length ((settledAt H ls es) .wall) ≤ length (s .wallLent)
+  wall-fits = omega (arith, length-wall ls es H, is-played .wall-fits)
+
+  pub wall-kept : (n : ℕ) → H ≤ n → getD ((outcome s) .wall) n 0 ≡ getD (s .wallLent) n 0
+  wall-kept n h =
+      ap (λ x. getD x n 0) all-wall ∙ kept-outside 0 ((settledAt H ls es) .wall) (s .wallLent) n wall-fits (inr (omega (arith, length-wall ls es H)))
+
+  pub row-kept : (i : ℕ) → i < booths s → (n : ℕ) → clockOf s i ≤ n → n < H → getD ((outcome s) .own) (i * H + n) 0 ≡ getD (s .ownLent) (i * H + n) 0
+  row-kept i h n a c =
+      let o : Outside H 0 last ((0 + i) * H + n) =
+      between-rows H 0 last (freshBooth no-line []) i n rows-short (omega (arith, length-booths ls es H)) (omega (arith, clock-is i h, row-length ls es as-read i h H)) c in
+      ap (λ x. getD x (i * H + n) 0) own-is ∙ rows-outside H 0 last (s .ownLent) (i * H + n) rows-short rows-fit (rw (zero-add i) at o)
+
+  pub own-kept : (n : ℕ) → booths s * H ≤ n → getD ((outcome s) .own) n 0 ≡ getD (s .ownLent) n 0
+  own-kept n h =
+      ap (λ x. getD x n 0) own-is
+      ∙ rows-outside H 0 last (s .ownLent) n rows-short rows-fit (behind-rows H 0 last n rows-short (rw (zero-add (length last), length-booths ls es H) h))
+
+  pub lengths-kept : (length ((outcome s) .wall) ≡ length (s .wallLent)) × (length ((outcome s) .own) ≡ length (s .ownLent))
+  lengths-kept = (
+    ap length all-wall ∙ length-written 0 ((settledAt H ls es) .wall) (s .wallLent) wall-fits,
+    ap length own-is ∙ length-rows H 0 last (s .ownLent) rows-short rows-fit,
+  )

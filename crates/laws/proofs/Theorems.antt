@@ -35,6 +35,7 @@ use Rattle.laws.specs.Statements.{
   total,
   demandOf,
   CountedOnce,
+  Untouched,
   Pinned,
 }
 use Rattle.laws.proofs.Entries.{From, Sorted}
@@ -43,7 +44,7 @@ use Rattle.laws.proofs.Clocks.{whole-periods, never-ahead, never-behind
 use Rattle.laws.proofs.Rows.{opened, opening, row-length, worked}
 use Rattle.laws.proofs.WallRecord.{in-range-at, all-counted, worked-at, length-worked, length-wall, wall-in-range}
 use Rattle.laws.proofs.SoloAlike.{solo-alike, take-solo}
-use Rattle.laws.proofs.Answered.{has-read, answers, room, lines-read, log-is-read, good-line, passing, as-read, clock-is, clocks-length, worked-is, idle-is, wall-is, row-is}
+use Rattle.laws.proofs.Answered.{has-read, answers, room, lines-read, log-is-read, good-line, passing, as-read, clock-is, clocks-length, worked-is, idle-is, wall-is, row-is, wall-kept, row-kept, own-kept, lengths-kept}
 
 sorted-at : (es : List Entry) → Sorted es → (n : ℕ) → suc n < length es → (getD es n no-entry) .tick ≤ (getD es (suc n) no-entry) .tick
 sorted-at [] s n h = absurd (not-suc-le-zero h)
@@ -163,6 +164,9 @@ counted-once =
           );
       demand = conserved;
     }
+
+pub untouched : Untouched
+untouched = record { wall = wall-kept; row = row-kept; own = own-kept; lengths = lengths-kept }
 
 pub pinned : Pinned
 pinned = record { once = λ In Out f x a b p q. p ∙ sym q }

@@ -195,6 +195,19 @@ pub record CountedOnce : Type 0 where
       → (added : List Entry) × (entriesOf s i ≡ added ++ (settledOf s (ticks s) i) .waiting)
       × ((k : ℕ) → k < length ((lineOf s i) .longest) → demandOf k added ≡ count k (rowOf s i) + getD ((settledOf s (ticks s) i) .left) k 0)
 
+-- ---- lent bytes that keep what they held
+
+pub record Untouched : Type 0 where
+  -- wall bytes from H on
+  pub wall : (s : Accepted) (n : ℕ) → ticks s ≤ n → getD ((outcome s) .wall) n 0 ≡ getD (s .wallLent) n 0
+  -- row bytes from the final u on
+  pub row : (s : Accepted) (i : ℕ) → i < booths s → (n : ℕ) → clockOf s i ≤ n → n < ticks s
+      → getD ((outcome s) .own) (i * ticks s + n) 0 ≡ getD (s .ownLent) (i * ticks s + n) 0
+  -- own-record bytes after the last booth's row
+  pub own : (s : Accepted) (n : ℕ) → booths s * ticks s ≤ n → getD ((outcome s) .own) n 0 ≡ getD (s .ownLent) n 0
+  -- and both records are as long as they were
+  pub lengths : (s : Accepted) → (length ((outcome s) .wall) ≡ length (s .wallLent)) × (length ((outcome s) .own) ≡ length (s .ownLent))
+
 -- ---- 6. Admission
 
 -- some whole R from 1 to T has room for the booth's B and, for each booth above it, its B times R / T of that booth rounded up
