@@ -1,6 +1,5 @@
 -- The reader of the table admits exactly by the response test, booth 0 first. Assumes nothing.
 use mathlib.Core.Path.{_≡_, refl, sym, ap, _∙_, subst}
-use mathlib.Core.Logic.{_⊎_, inl, inr}
 use mathlib.Core.Bool.{Bool, true, false, true≢false, false≢true}
 use mathlib.Core.List.{List, [], _∷_, _++_, append-assoc, append-nil}
 use mathlib.Core.Option.{Option, none, some}
@@ -11,7 +10,6 @@ use native.Mathlib.Omega.{arith}
 use lib.Dec.{leb}
 use lib.ListN.{length, getD, take}
 use borrow.Author.Tests.{leb-true, le-leb}
-use Rattle.rules.specs.declared.Refusal.{Refusal}
 use Rattle.rules.specs.Refusals.{Taken, taken, refused, refusal, not-admitted}
 use Rattle.rules.specs.BoothTable.{Line, no-line, readLines}
 use Rattle.rules.specs.Admission.{askedAbove, someUpTo, passes, firstFailing, readTable}

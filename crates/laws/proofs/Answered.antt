@@ -1,30 +1,28 @@
 -- What an accepted session answers and leaves in the lent records, booth by booth. Assumes nothing.
-use mathlib.Core.Path.{_≡_, refl, sym, ap, _∙_, subst}
-use mathlib.Core.Logic.{inl, inr}
+use mathlib.Core.Path.{_≡_, refl, sym, ap, _∙_}
+use mathlib.Core.Logic.{inr}
 use mathlib.Core.List.{List, [], _∷_, _++_}
 use mathlib.Core.Option.{Option, none, some}
-use Prim.Native.Nat.{ℕ, zero, suc, _+_, _*_, _≤_, _<_}
-use native.Mathlib.Nat.{zero-add, not-suc-le-zero, le-of-suc-le-suc}
+use Prim.Native.Nat.{ℕ, suc, _+_, _*_, _≤_, _<_}
+use native.Mathlib.Nat.{zero-add}
 use native.Mathlib.Omega.{arith}
-use lib.Dec.{ltb}
 use lib.ListN.{length, getD, take, drop, length-map}
-use lib.Seq.{take-append-seam, getD-take}
+use lib.Seq.{take-append-seam}
 use borrow.Author.Tests.{ltb-false, le-ltb}
 use Rattle.rules.specs.declared.Refusal.{Refusal}
 use Rattle.rules.specs.declared.Refused.{Refused}
 use Rattle.rules.specs.declared.Refused.the-variants.{Nothing, TheTable, TheLog, TheCall}
 use Rattle.rules.specs.Bytes.{written}
 use Rattle.rules.specs.Refusals.{Taken, taken, refused, refuseIf, firstFault, accepted, refusedAs}
-use Rattle.rules.specs.BoothTable.{Line, no-line, booths-allowed, tasks-allowed}
+use Rattle.rules.specs.BoothTable.{Line, no-line}
 use Rattle.rules.specs.ArrivalLog.{Entry, Log, readLog}
 use Rattle.rules.specs.Admission.{readTable}
-use Rattle.rules.specs.Due.{due}
 use Rattle.rules.specs.Moves.{Booth, nobody}
-use Rattle.rules.specs.Session.{Outcome, count, workedFrom, writeRows, freshBooth, settledAt, nothingDone, bufferChecks, played, session}
+use Rattle.rules.specs.Session.{count, workedFrom, writeRows, freshBooth, settledAt, nothingDone, bufferChecks, played, session}
 use Rattle.laws.specs.Statements.{GoodLine, Passes, Accepted, outcome, booths, ticks, lineOf, clockOf, rowOf, wallOf, settledOf}
 use Rattle.laws.proofs.DueLaws.{due-at-most}
 use Rattle.laws.proofs.Checks.{no-fault}
-use Rattle.laws.proofs.Readers.{All, all-at, Lines, read-lines, LogRead, read-log}
+use Rattle.laws.proofs.Readers.{all-at, Lines, read-lines, LogRead, read-log}
 use Rattle.laws.proofs.Admitted.{read-table}
 use Rattle.laws.proofs.Run.{AsRead, getD-map, length-booths}
 use Rattle.laws.proofs.Clocks.{never-ahead}

@@ -1,9 +1,9 @@
 -- The audition as an instance of opening, agreement and no lag. Assumes nothing.
 use mathlib.Core.Path.{_≡_, refl, sym, ap, _∙_}
-use mathlib.Core.List.{List, [], _∷_}
-use Prim.Native.Nat.{ℕ, _≤_, _<_, min}
+use mathlib.Core.List.{[], _∷_}
+use Prim.Native.Nat.{_<_, min}
 use native.Mathlib.Omega.{arith}
-use lib.ListN.{length, take}
+use lib.ListN.{length}
 use lib.Seq.{take-all}
 use Rattle.rules.specs.Bytes
 use Rattle.rules.specs.Refusals

@@ -1,7 +1,7 @@
 -- What the readers guarantee of what they take. Assumes nothing.
-use mathlib.Core.Path.{_≡_, refl, sym, ap, _∙_, subst}
+use mathlib.Core.Path.{_≡_, refl, sym, ap, subst}
 use mathlib.Core.Logic.{_≢_}
-use mathlib.Core.Bool.{Bool, true, false, not, _&&_, _||_, true≢false, false≢true}
+use mathlib.Core.Bool.{Bool, true, false, _&&_, false≢true}
 use mathlib.Core.List.{List, [], _∷_}
 use mathlib.Core.Option.{Option, none, some}
 use Prim.Native.Nat.{ℕ, zero, suc, _+_, _-_, _*_, _/_, _%_, _≤_, _<_}
@@ -9,12 +9,12 @@ use native.Mathlib.Nat.{not-suc-le-zero, le-of-suc-le-suc}
 use native.Mathlib.Omega.{arith}
 use lib.Dec.{leb, ltb, eqb}
 use lib.ListN.{length, getD}
-use borrow.Author.Tests.{ltb-false, leb-true, leb-false, eqb-true, eqb-false, not-false, lt-leb}
+use borrow.Author.Tests.{ltb-false, leb-true, leb-false, eqb-false, not-false}
 use Rattle.rules.specs.declared.Refusal.{Refusal}
 use Rattle.rules.specs.Refusals.{Taken, taken, refused, refuseIf, firstFault, refusal, not-admitted}
-use Rattle.rules.specs.BoothTable.{Line, no-line, booths-allowed, tasks-allowed, longest-period, tableN, headerChecks, jobsAt, recordL, recordEnd, lineAt, lengthAllowed, someZero, recordChecks, withLine, readRecords, readLines}
+use Rattle.rules.specs.BoothTable.{Line, booths-allowed, tasks-allowed, longest-period, tableN, headerChecks, jobsAt, recordL, recordEnd, lineAt, lengthAllowed, recordChecks, withLine, readRecords, readLines}
 use Rattle.rules.specs.ArrivalLog.{Entry, Log, longest-session, entries-allowed, entry-bytes, logH, logHeaderChecks, entryAt, longestJobs, entryChecks, withEntry, readEntries, withHorizon, readLog}
-use Rattle.laws.specs.Statements.{Sound, GoodLine, GoodEntry}
+use Rattle.laws.specs.Statements.{GoodLine, GoodEntry}
 use Rattle.laws.proofs.Entries.{From, Sorted}
 use Rattle.laws.proofs.Checks.{taken-or-refused, taken-once, refused-once, neither, no-fault, not-said}
 

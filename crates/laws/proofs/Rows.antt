@@ -1,8 +1,8 @@
 -- In every run each booth's row is an opening of its solo part, and counts its worked ticks. Assumes nothing.
 use mathlib.Core.Path.{_≡_, refl, sym, ap, _∙_, subst}
-use mathlib.Core.Logic.{_⊎_, inl, inr}
-use mathlib.Core.Bool.{true, false}
-use mathlib.Core.List.{List, [], _∷_, _++_}
+use mathlib.Core.Logic.{inl, inr}
+use mathlib.Core.Bool.{false}
+use mathlib.Core.List.{List, [], _∷_}
 use Prim.Native.Nat.{ℕ, zero, suc, _+_, _-_, _≤_, _<_}
 use native.Mathlib.Omega.{arith}
 use lib.ListN.{length, getD, replicate, length-append, length-replicate}
@@ -15,7 +15,6 @@ use Rattle.rules.specs.SoloPart.{solo}
 use Rattle.laws.specs.Statements.{boothAt}
 use Rattle.laws.proofs.Entries.{own-sorted}
 use Rattle.laws.proofs.QuickSettle.{forward, addFirst, quickSettle, settle-ind, rests}
-use Rattle.laws.proofs.Turns.{Worked, Kept}
 use Rattle.laws.proofs.Run.{AsRead, wallAt, wall-start, wall-step, start, Tick, tick}
 use Rattle.laws.proofs.Counting.{count-append, count-nil, count-last-same, count-last-other, count-all}
 use Rattle.laws.proofs.Tasks.{first-below}

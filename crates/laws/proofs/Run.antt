@@ -1,6 +1,6 @@
 -- The run, tick by tick: what a wall tick does to each booth and to the wall record. Assumes nothing.
 use mathlib.Core.Path.{_≡_, refl, sym, ap, _∙_, subst}
-use mathlib.Core.Logic.{_⊎_, inl, inr}
+use mathlib.Core.Logic.{inl, inr}
 use mathlib.Core.List.{List, [], _∷_, _++_, map}
 use Prim.Native.Nat.{ℕ, zero, suc, _+_, _≤_, _<_}
 use native.Mathlib.Nat.{suc-add, add-suc, add-zero, zero-add, not-suc-le-zero, le-of-suc-le-suc}
@@ -8,15 +8,13 @@ use native.Mathlib.Omega.{arith}
 use lib.ListN.{length, getD, length-map}
 use Rattle.rules.specs.BoothTable.{Line, no-line}
 use Rattle.rules.specs.ArrivalLog.{Entry}
-use Rattle.rules.specs.Due.{due}
 use Rattle.rules.specs.Moves.{Booth, nobody, settle, work, worker, turn, settleAll, play, playTicks}
 use Rattle.rules.specs.Session.{ownEntries, freshBooth, openBooths, settledAt}
 use Rattle.laws.specs.Statements.{Sound, boothAt}
-use Rattle.laws.proofs.DueLaws.{due-zero}
 use Rattle.laws.proofs.Entries.{Sorted, own-sorted}
 use Rattle.laws.proofs.QuickSettle.{quickSettle, InOrder, Settled, later-in-order, quick-line, quick-settled}
 use Rattle.laws.proofs.PageSettle.{settle-quick}
-use Rattle.laws.proofs.Turns.{Worked, Kept, Turned, turned, length-turn}
+use Rattle.laws.proofs.Turns.{Turned, turned, length-turn}
 
 -- a table and its entries as the readers leave them
 pub record AsRead (ls : List Line) (es : List Entry) : Type 0 where

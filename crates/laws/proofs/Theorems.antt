@@ -1,44 +1,18 @@
 -- The statements of specs/Statements, proved: the laws of due stand in DueLaws, admission in Admitted. Assumes nothing.
-use mathlib.Core.Path.{_≡_, refl, sym, ap, _∙_, subst}
-use mathlib.Core.Logic.{_⊎_, inl, inr}
+use mathlib.Core.Path.{_≡_, sym, ap, _∙_, subst}
+use mathlib.Core.Logic.{_⊎_}
 use mathlib.Core.List.{List, [], _∷_, _++_}
 use Prim.Native.Nat.{ℕ, zero, suc, _+_, _*_, _≤_, _<_, min}
 use native.Mathlib.Nat.{zero-add, not-suc-le-zero, le-of-suc-le-suc}
 use native.Mathlib.Omega.{arith}
-use lib.ListN.{length, getD, take, drop}
+use lib.ListN.{length, getD, take}
 use lib.Seq.{getD-take}
-use Rattle.rules.specs.BoothTable.{Line, no-line}
 use Rattle.rules.specs.ArrivalLog.{Entry}
-use Rattle.rules.specs.Due.{due}
 use Rattle.rules.specs.Moves.{nobody}
-use Rattle.rules.specs.Session.{count, workedFrom, settledAt}
+use Rattle.rules.specs.Session.{count, settledAt}
 use Rattle.rules.specs.SoloPart.{solo}
-use Rattle.laws.specs.Statements.{
-  GoodEntry,
-  Accepted,
-  outcome,
-  booths,
-  ticks,
-  lineOf,
-  entriesOf,
-  clockOf,
-  rowOf,
-  wallOf,
-  settledOf,
-  no-entry,
-  WhatIsAccepted,
-  Opening,
-  SameLine,
-  asks,
-  Agreement,
-  NoLag,
-  total,
-  demandOf,
-  CountedOnce,
-  Untouched,
-  Pinned,
-}
-use Rattle.laws.proofs.Entries.{From, Sorted}
+use Rattle.laws.specs.Statements.{GoodEntry, Accepted, outcome, booths, ticks, lineOf, entriesOf, clockOf, rowOf, settledOf, no-entry, WhatIsAccepted, Opening, SameLine, asks, Agreement, NoLag, total, demandOf, CountedOnce, Untouched, Pinned}
+use Rattle.laws.proofs.Entries.{Sorted}
 use Rattle.laws.proofs.Readers.{all-at}
 use Rattle.laws.proofs.Clocks.{whole-periods, never-ahead, never-behind}
 use Rattle.laws.proofs.Rows.{opened, opening, row-length, worked}

@@ -2,7 +2,7 @@
 use mathlib.Core.Path.{_≡_, refl}
 use mathlib.Core.List.{List, [], _∷_}
 use Prim.Native.Nat.{ℕ}
-use lib.ListN.{length, take}
+use lib.ListN.{length}
 use Rattle.rules.specs.Bytes
 use Rattle.rules.specs.Refusals
 use Rattle.rules.specs.BoothTable
@@ -10,12 +10,10 @@ use Rattle.rules.specs.BoothTable.{Line}
 use Rattle.rules.specs.ArrivalLog
 use Rattle.rules.specs.ArrivalLog.{Entry}
 use Rattle.rules.specs.Admission
-use Rattle.rules.specs.Due
-use Rattle.rules.specs.Moves
 use Rattle.rules.specs.Session
 use Rattle.rules.specs.MarkedCases
 use Rattle.rules.specs.MarkedCases.{audition, auditionLog, otherLog, lent}
-use Rattle.laws.specs.Statements.{Accepted, clockOf, rowOf, settledOf}
+use Rattle.laws.specs.Statements.{Accepted, rowOf, settledOf}
 
 unfoldable pub lines : List Line
 lines =
