@@ -1,6 +1,6 @@
 -- What an accepted session answers and leaves in the lent records, booth by booth. Assumes nothing.
 use mathlib.Core.Path.{_≡_, refl, sym, ap, _∙_}
-use mathlib.Core.Logic.{inr}
+use mathlib.Core.Logic.{_⊎_, inl, inr}
 use mathlib.Core.List.{List, [], _∷_, _++_}
 use mathlib.Core.Option.{Option, none, some}
 use Prim.Native.Nat.{ℕ, suc, _+_, _*_, _≤_, _<_}
@@ -67,6 +67,30 @@ pub answers : (tableBytes logBytes wall own : List ℕ) (ls : List Line) (log : 
 unfolding session played bufferChecks refuseIf firstFault
 answers tableBytes logBytes wall own ls log q p w o =
     rw (q, session) (rw p (rw (le-ltb (length wall) (log .horizon) w, le-ltb (length own) (length ls * log .horizon) o)))
+
+pub or-nothing : (tableBytes logBytes wall own : List ℕ)
+    → ((session tableBytes logBytes wall own) .verdict ≡ accepted)
+    ⊎ (session tableBytes logBytes wall own ≡ nothingDone ((session tableBytes logBytes wall own) .verdict) wall own)
+unfolding session nothingDone played
+or-nothing tableBytes logBytes wall own = the-table (readTable tableBytes) refl
+  where
+    Either : Type 0
+    Either =
+        ((session tableBytes logBytes wall own) .verdict ≡ accepted)
+        ⊎ (session tableBytes logBytes wall own ≡ nothingDone ((session tableBytes logBytes wall own) .verdict) wall own)
+
+    the-call : (ls : List Line) (log : Log) → readTable tableBytes ≡ taken ls → readLog ls logBytes ≡ taken log
+        → (f : Option Refusal) → firstFault (bufferChecks (length ls) (log .horizon) wall own) ≡ f → Either
+    the-call ls log q p (some r) x = inr (rw (q, session) (rw p (rw x)))
+    the-call ls log q p none x = inl (rw (q, session) (rw p (rw x)))
+
+    the-log : (ls : List Line) → readTable tableBytes ≡ taken ls → (t : Taken Log) → readLog ls logBytes ≡ t → Either
+    the-log ls q (refused r) p = inr (rw (q, session) (rw p))
+    the-log ls q (taken log) p = the-call ls log q p (firstFault (bufferChecks (length ls) (log .horizon) wall own)) refl
+
+    the-table : (t : Taken (List Line)) → readTable tableBytes ≡ t → Either
+    the-table (refused r) q = inr (rw (q, session))
+    the-table (taken ls) q = the-log ls q (readLog ls logBytes) refl
 
 module _ (s : Accepted) where
   abbrev H : ℕ

@@ -18,7 +18,7 @@ use Rattle.laws.proofs.Clocks.{whole-periods, never-ahead, never-behind
 use Rattle.laws.proofs.Rows.{opened, opening, row-length, worked}
 use Rattle.laws.proofs.WallRecord.{in-range-at, all-counted, worked-at, length-worked, length-wall, wall-in-range}
 use Rattle.laws.proofs.SoloAlike.{solo-alike, take-solo}
-use Rattle.laws.proofs.Answered.{has-read, answers, room, lines-read, log-is-read, good-line, passing, as-read, clock-is, clocks-length, worked-is, idle-is, wall-is, row-is, wall-kept, row-kept, own-kept, lengths-kept}
+use Rattle.laws.proofs.Answered.{has-read, answers, or-nothing, room, lines-read, log-is-read, good-line, passing, as-read, clock-is, clocks-length, worked-is, idle-is, wall-is, row-is, wall-kept, row-kept, own-kept, lengths-kept}
 
 sorted-at : (es : List Entry) → Sorted es → (n : ℕ) → suc n < length es → (getD es n no-entry) .tick ≤ (getD es (suc n) no-entry) .tick
 sorted-at [] s n h = absurd (not-suc-le-zero h)
@@ -31,6 +31,7 @@ what-is-accepted =
     record {
       has-read = has-read;
       answers = answers;
+      or-nothing = or-nothing;
       few-booths = λ s. let r = lines-read s in (r .some-booth, r .few-booths);
       lines = good-line;
       few-ticks = λ s. let r = log-is-read s in (r .short, r .few-entries);

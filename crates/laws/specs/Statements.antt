@@ -13,7 +13,7 @@ use Rattle.rules.specs.ArrivalLog.{Entry, Log, longest-session, entries-allowed
 use Rattle.rules.specs.Admission.{roundedUp, askedAbove, readTable}
 use Rattle.rules.specs.Due.{due, releasePoint}
 use Rattle.rules.specs.Moves.{Booth, nobody}
-use Rattle.rules.specs.Session.{Outcome, ownEntries, freshBooth, settledAt, count, session}
+use Rattle.rules.specs.Session.{Outcome, ownEntries, freshBooth, settledAt, count, nothingDone, session}
 use Rattle.rules.specs.SoloPart.{solo}
 
 -- ---- 1. The laws of due
@@ -117,6 +117,10 @@ pub record WhatIsAccepted : Type 0 where
   -- and one that has read both, with room in the lent records, answers 0
   pub answers : (tableBytes logBytes wall own : List ℕ) (ls : List Line) (log : Log) → readTable tableBytes ≡ taken ls → readLog ls logBytes ≡ taken log
       → log .horizon ≤ length wall → length ls * log .horizon ≤ length own → (session tableBytes logBytes wall own) .verdict ≡ accepted
+  -- any other session has done nothing: every count is 0, and no lent byte has changed
+  pub or-nothing : (tableBytes logBytes wall own : List ℕ)
+      → ((session tableBytes logBytes wall own) .verdict ≡ accepted)
+      ⊎ (session tableBytes logBytes wall own ≡ nothingDone ((session tableBytes logBytes wall own) .verdict) wall own)
   -- 1 to 8 booths, each line in range
   pub few-booths : (s : Accepted) → (1 ≤ booths s) × (booths s ≤ booths-allowed)
   pub lines : (s : Accepted) (i : ℕ) → i < booths s → GoodLine (lineOf s i)
