@@ -29,9 +29,9 @@ unfolding
     Bytes.bigEndian Bytes.numberAt
     Refusals.refusal Refusals.refuseIf Refusals.firstFault
     BoothTable.no-line BoothTable.tableN BoothTable.headerChecks BoothTable.jobsAt BoothTable.recordL BoothTable.recordEnd BoothTable.lineAt
-    BoothTable.lengthAllowed BoothTable.someZero BoothTable.recordChecks BoothTable.withLine BoothTable.readRecords BoothTable.readLines
+    BoothTable.lengthAllowed BoothTable.someZero BoothTable.lineChecks BoothTable.recordChecks BoothTable.withLine BoothTable.readRecords BoothTable.readLines
     Admission.roundedUp Admission.askedAbove Admission.someUpTo Admission.passes Admission.firstFailing Admission.readTable
-    ArrivalLog.logN ArrivalLog.logH ArrivalLog.logHeaderChecks ArrivalLog.entryAt ArrivalLog.longestJobs ArrivalLog.entryChecks
+    ArrivalLog.logN ArrivalLog.logH ArrivalLog.headChecks ArrivalLog.horizonChecks ArrivalLog.entryAt ArrivalLog.longestJobs ArrivalLog.entryChecks
     ArrivalLog.withEntry ArrivalLog.readEntries ArrivalLog.withHorizon ArrivalLog.readLog
     Due.due Due.releasePoint
     Moves.noDemand Moves.addDemand Moves.isReady Moves.addReady Moves.stillWaiting Moves.gather Moves.earlier Moves.earliestPoint Moves.moveTo

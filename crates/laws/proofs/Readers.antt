@@ -2,7 +2,7 @@
 use mathlib.Core.Path.{_≡_, refl, sym, ap, subst}
 use mathlib.Core.Logic.{_≢_}
 use mathlib.Core.Bool.{Bool, true, false, _&&_, false≢true}
-use mathlib.Core.List.{List, [], _∷_}
+use mathlib.Core.List.{List, [], _∷_, _++_}
 use mathlib.Core.Option.{Option, none, some}
 use Prim.Native.Nat.{ℕ, zero, suc, _+_, _-_, _*_, _/_, _%_, _≤_, _<_}
 use native.Mathlib.Nat.{not-suc-le-zero, le-of-suc-le-suc}
@@ -12,8 +12,8 @@ use lib.ListN.{length, getD}
 use borrow.Author.Tests.{ltb-false, leb-true, leb-false, eqb-false, not-false}
 use Rattle.rules.specs.declared.Refusal.{Refusal}
 use Rattle.rules.specs.Refusals.{Taken, taken, refused, refuseIf, firstFault, refusal, not-admitted}
-use Rattle.rules.specs.BoothTable.{Line, booths-allowed, tasks-allowed, longest-period, tableN, headerChecks, jobsAt, recordL, recordEnd, lineAt, lengthAllowed, recordChecks, withLine, readRecords, readLines}
-use Rattle.rules.specs.ArrivalLog.{Entry, Log, longest-session, entries-allowed, entry-bytes, logH, logHeaderChecks, entryAt, longestJobs, entryChecks, withEntry, readEntries, withHorizon, readLog}
+use Rattle.rules.specs.BoothTable.{Line, booths-allowed, tasks-allowed, longest-period, tableN, headerChecks, jobsAt, recordL, recordEnd, lineAt, lengthAllowed, lineChecks, recordChecks, withLine, readRecords, readLines}
+use Rattle.rules.specs.ArrivalLog.{Entry, Log, longest-session, entries-allowed, entry-bytes, logH, headChecks, horizonChecks, entryAt, longestJobs, entryChecks, withEntry, readEntries, withHorizon, readLog}
 use Rattle.laws.specs.Statements.{GoodLine, GoodEntry}
 use Rattle.laws.proofs.Entries.{From, Sorted}
 use Rattle.laws.proofs.Checks.{taken-or-refused, taken-once, refused-once, neither, no-fault, not-said}
@@ -50,7 +50,7 @@ allowed L h =
     (leb-true 6 L c, leb-true L 20 d)
 
 good-line : (bs : List ℕ) (at : ℕ) → firstFault (recordChecks bs at) ≡ none → GoodLine (lineAt bs at)
-unfolding recordChecks refuseIf lineAt recordL
+unfolding recordChecks refuseIf lineAt recordL lineChecks
 good-line bs at h =
     let p = no-fault (recordChecks bs at) h in
     let L = allowed (recordL bs at) (not-false (lengthAllowed (recordL bs at)) (p .0)) in
@@ -247,15 +247,15 @@ pub record LogRead (ls : List Line) (log : Log) : Type 0 where
   pub good : All (GoodEntry ls (log .horizon)) (log .entries)
   pub sorted : Sorted (log .entries)
 
-horizon-short : (bs : List ℕ) → firstFault (logHeaderChecks bs) ≡ none → logH bs ≤ longest-session
-unfolding logHeaderChecks refuseIf
-horizon-short bs h = let p = no-fault (logHeaderChecks bs) h in ltb-false longest-session (logH bs) (p .1 .1 .1 .1 .1 .1 .1 .0)
+horizon-short : (bs : List ℕ) → firstFault (headChecks bs ++ horizonChecks bs) ≡ none → logH bs ≤ longest-session
+unfolding headChecks horizonChecks refuseIf
+horizon-short bs h = let p = no-fault (headChecks bs ++ horizonChecks bs) h in ltb-false longest-session (logH bs) (p .1 .1 .1 .1 .1 .1 .1 .0)
 
 pub read-log : (ls : List Line) (bs : List ℕ) (log : Log) → readLog ls bs ≡ taken log → LogRead ls log
 unfolding readLog withHorizon
-read-log ls bs log h = go (firstFault (logHeaderChecks bs)) refl (readEntries entries-allowed ls (logH bs) 0 bs 9) refl
+read-log ls bs log h = go (firstFault (headChecks bs ++ horizonChecks bs)) refl (readEntries entries-allowed ls (logH bs) 0 bs 9) refl
   where
-    go : (f : Option Refusal) → firstFault (logHeaderChecks bs) ≡ f → (t : Taken (List Entry)) → readEntries entries-allowed ls (logH bs) 0 bs 9 ≡ t → LogRead ls log
+    go : (f : Option Refusal) → firstFault (headChecks bs ++ horizonChecks bs) ≡ f → (t : Taken (List Entry)) → readEntries entries-allowed ls (logH bs) 0 bs 9 ≡ t → LogRead ls log
     go (some r) q t p = absurd (taken-or-refused log r (rw (q, readLog) at h))
     go none q (refused r) p = absurd (taken-or-refused log r (rw p at (rw (q, readLog) at h)))
     go none q (taken es) p =

@@ -32,9 +32,9 @@ unfolding
     Bytes.bigEndian Bytes.numberAt Bytes.written
     Refusals.refusal Refusals.refuseIf Refusals.firstFault Refusals.accepted Refusals.refusedAs
     BoothTable.no-line BoothTable.tableN BoothTable.headerChecks BoothTable.jobsAt BoothTable.recordL BoothTable.recordEnd BoothTable.lineAt
-    BoothTable.lengthAllowed BoothTable.someZero BoothTable.recordChecks BoothTable.withLine BoothTable.readRecords BoothTable.readLines
+    BoothTable.lengthAllowed BoothTable.someZero BoothTable.lineChecks BoothTable.recordChecks BoothTable.withLine BoothTable.readRecords BoothTable.readLines
     Admission.roundedUp Admission.askedAbove Admission.someUpTo Admission.passes Admission.firstFailing Admission.readTable
-    ArrivalLog.logN ArrivalLog.logH ArrivalLog.logHeaderChecks ArrivalLog.entryAt ArrivalLog.longestJobs ArrivalLog.entryChecks
+    ArrivalLog.logN ArrivalLog.logH ArrivalLog.headChecks ArrivalLog.horizonChecks ArrivalLog.entryAt ArrivalLog.longestJobs ArrivalLog.entryChecks
     ArrivalLog.withEntry ArrivalLog.readEntries ArrivalLog.withHorizon ArrivalLog.readLog
     Session.nothingDone Session.bufferChecks Session.played Session.session
 sessions = (
