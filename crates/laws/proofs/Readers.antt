@@ -142,7 +142,7 @@ not-seven-record zero bs at r h = go (leb (length bs) at) refl
 not-seven-record (suc room) bs at r h = go (λ e. not-seven-record room bs (recordEnd bs at) r e) (leb (length bs) at) refl (firstFault (recordChecks bs at)) refl
   where
     says : (x : Refusal) → firstFault (recordChecks bs at) ≡ some x → x .number ≢ not-admitted
-    says x p = not-said not-admitted (recordChecks bs at) x (unfold recordChecks refuseIf refusal in omega arith) p
+    says x p = not-said not-admitted (recordChecks bs at) x (unfold recordChecks lineChecks refuseIf refusal in omega arith) p
 
     inner : (t : Taken (List Line)) → withLine (lineAt bs at) t ≡ refused r → t ≡ refused r
     inner (taken ms) e = absurd (taken-or-refused (lineAt bs at ∷ ms) r (sym (unfold withLine in e)))
