@@ -19,3 +19,4 @@ pub mod SoloAlike
 pub mod Answered
 pub mod Theorems
 pub mod AuditionLaws
+pub mod FirstWorker
