@@ -20,3 +20,4 @@ pub mod Answered
 pub mod Theorems
 pub mod AuditionLaws
 pub mod FirstWorker
+pub mod SettleAgain
