@@ -21,3 +21,4 @@ pub mod Theorems
 pub mod AuditionLaws
 pub mod FirstWorker
 pub mod SettleAgain
+pub mod Asleep
