@@ -22,3 +22,4 @@ pub mod AuditionLaws
 pub mod FirstWorker
 pub mod SettleAgain
 pub mod Asleep
+pub mod RowSlices
