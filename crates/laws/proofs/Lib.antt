@@ -23,3 +23,4 @@ pub mod FirstWorker
 pub mod SettleAgain
 pub mod Asleep
 pub mod RowSlices
+pub mod Course
