@@ -1,0 +1,203 @@
+// The panel: a booth's two shares and their reading; and a booth's own row handed back.
+ghost use mathlib.Core.Path.{_≡_};
+ghost use mathlib.Core.Option.{some};
+ghost use Prim.Native.Nat.{_≤_, _<_};
+ghost use lib.ListN.{length, take};
+ghost use Rattle.rules.specs.declared.Refused.the-variants.{TheCall};
+ghost use Rattle.rules.specs.Refusals.{refusal, refusedAs, firstFault, faultOf};
+ghost use Rattle.rules.specs.Session as session;
+ghost use Rattle.rules.specs.RowBack as row;
+ghost use Rattle.rules.specs.Panel as page;
+ghost use Rattle.panel.specs.Exact.{ExactAtPowers};
+ghost use Rattle.panel.specs.Shown.{shownReading, shownRow};
+use rules::Fault;
+use rules::Promise;
+use rules::Refusal;
+use rules::Refused;
+use rules::Verdict;
+use rules::WallTick;
+
+// None yet, or how worked stands to due, with the share got.
+pub enum Reading {
+    NoneYet,
+    Below(f64),
+    AtCeiling(f64),
+    Over(f64),
+}
+
+// The two shares of one booth, beside their reading.
+pub struct PanelRow {
+    pub verdict: Verdict,
+    pub promised: f64,
+    pub got: f64,
+    pub reading: Reading,
+}
+
+fn fault(number: u32) -> Fault
+    ensures { λ r. ⌜ r ≡ faultOf (some (refusal number 0)) ⌝ }
+{
+    Fault::Found(Refusal { number, place: 0 })
+}
+
+// Booth, H, count, then the end, each tested before it is multiplied, so that no product is too large.
+fn row_fault(own: &[u8], h: usize, booth: usize, count: usize) -> Fault
+    ensures { λ r. ⌜ r ≡ faultOf (firstFault (row.rowChecks (now (own .entry)) h booth count)) ⌝ }
+{
+    if 8 <= booth {
+        return fault(11);
+    }
+    if 1000000 < h {
+        return fault(11);
+    }
+    if h < count {
+        return fault(11);
+    }
+    if own.len() < booth * h + count {
+        return fault(11);
+    }
+    Fault::Nothing
+}
+
+// Number 0 where `row_back` hands a row back, 11 where its part is empty because the call does not fit.
+pub fn row_verdict(own: &[u8], h: usize, booth: usize, count: usize) -> Verdict
+    ensures { λ r. ⌜ r ≡ (row.rowBack (now (own .entry)) h booth count) .verdict ⌝ }
+{
+    if let Fault::Found(refusal) = row_fault(own, h, booth, count) {
+        return Verdict {
+            refused: Refused::TheCall,
+            refusal,
+        };
+    }
+    Verdict {
+        refused: Refused::Nothing,
+        refusal: Refusal {
+            number: 0,
+            place: 0,
+        },
+    }
+}
+
+// The caller's own bytes, `count` of them from `booth` times `h`, or the empty part.
+pub fn row_back(own: &[u8], h: usize, booth: usize, count: usize) -> &[u8]
+    ensures { λ r. ⌜ now r ≡ (row.rowBack (now (own .entry)) h booth count) .part ⌝ }
+{
+    if let Fault::Found(_) = row_fault(own, h, booth, count) {
+        return &own[0..0];
+    }
+    let start = booth * h;
+    let end = start + count;
+    &own[start..end]
+}
+
+// One division of doubles, and nothing after it; exact where `whole` is a power of two.
+fn share(part: u32, whole: u32) -> f64
+    ensures once { λ r. ⌜ r ≡ page.share part whole ⌝ }
+    ensures exact { λ r. ⌜ ExactAtPowers part whole r ⌝ }
+{
+    part as f64 / whole as f64
+}
+
+// How often the booth stands in the first `t` bytes.
+fn worked_ticks(wall: &[u8], booth: usize, t: u32) -> u32
+    requires { ⌜ t ≤ length (now wall) ⌝ }
+    ensures { λ r. ⌜ r ≡ session.count booth (take t (now (wall .entry))) ⌝ }
+{
+    let end = t as usize;
+    let mut worked: u32 = 0;
+    let mut at: usize = 0;
+    while at < end {
+        if rules::wide(wall[at]) as usize == booth {
+            worked += 1;
+        }
+        at += 1;
+    }
+    worked
+}
+
+fn reading_of(worked: u32, due: u32, got: f64) -> Reading
+    ensures { λ r. ⌜ r ≡ shownReading (page.readingOf worked due got) ⌝ }
+{
+    if worked < due {
+        return Reading::Below(got);
+    }
+    if worked == due {
+        return Reading::AtCeiling(got);
+    }
+    Reading::Over(got)
+}
+
+// The row of a booth that worked so many of the first `t` ticks.
+fn panel_row(promise: Promise, worked: u32, t: u32) -> PanelRow
+    requires { ⌜ (0 < promise .period) × (promise .allowance ≤ promise .period) ⌝ }
+    ensures { λ r. ⌜ r ≡ shownRow (page.panelRow promise worked t) ⌝ }
+{
+    let verdict = Verdict {
+        refused: Refused::Nothing,
+        refusal: Refusal {
+            number: 0,
+            place: 0,
+        },
+    };
+    let promised = share(promise.allowance, promise.period);
+    if t == 0 {
+        return PanelRow {
+            verdict,
+            promised,
+            got: 0.0,
+            reading: Reading::NoneYet,
+        };
+    }
+    let due = rules::due(promise, WallTick(t));
+    let got = share(worked, t);
+    let reading = reading_of(worked, due.0, got);
+    PanelRow {
+        verdict,
+        promised,
+        got,
+        reading,
+    }
+}
+
+// A refusal: both shares 0 and the reading none yet.
+fn no_panel(refused: Refused, refusal: Refusal) -> PanelRow
+    ensures { λ r. ⌜ r ≡ shownRow (page.noPanel (refusedAs refused refusal)) ⌝ }
+{
+    let verdict = Verdict { refused, refusal };
+    PanelRow {
+        verdict,
+        promised: 0.0,
+        got: 0.0,
+        reading: Reading::NoneYet,
+    }
+}
+
+fn call_refused(number: u32) -> PanelRow
+    ensures { λ r. ⌜ r ≡ shownRow (page.noPanel (refusedAs TheCall (refusal number 0))) ⌝ }
+{
+    no_panel(Refused::TheCall, Refusal { number, place: 0 })
+}
+
+// The panel row of a booth after `t` wall ticks, for any bytes as table and wall record.
+pub fn panel(table: &[u8], wall: &[u8], booth: usize, t: WallTick) -> PanelRow
+    ensures { λ r. ⌜ r ≡ shownRow (page.panel (now (table .entry)) (now (wall .entry)) booth (t .0)) ⌝ }
+{
+    let answer = table::read_table(table);
+    let refusal = answer.refusal;
+    if refusal.number != 0 {
+        return no_panel(Refused::TheTable, refusal);
+    }
+    let held = answer.table;
+    if held.booths <= booth {
+        return call_refused(9);
+    }
+    if wall.len() < t.0 as usize {
+        return call_refused(11);
+    }
+    if 1000000 < t.0 {
+        return call_refused(11);
+    }
+    let lines = held.lines;
+    let line = lines[booth];
+    let promise = line.promise;
+    panel_row(promise, worked_ticks(wall, booth, t.0), t.0)
+}
