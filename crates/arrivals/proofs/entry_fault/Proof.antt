@@ -4,6 +4,7 @@ use borrow.Author.Tests.{eq-eqb, ne-eqb, lt-ltb, le-ltb, le-leb, lt-leb}
 use Rattle.rules.specs.Refusals.{refuseIf, firstFault, faultOf}
 use Rattle.rules.specs.ArrivalLog.{entryAt}
 use Rattle.arrivals.specs.Limits.{heldChecks}
+use Rattle.arrivals.proofs.EntryChecks.{Known, demand-left}
 use borrow.Author.Needs.{needs}
 use Rattle.arrivals.proofs.entry_fault.Statement.{statement}
 use Rattle.arrivals.proofs.entry_fault.Tie as tie
@@ -150,24 +151,35 @@ add-number16 c = search needs
 number16-requires : tie.Need-number16-requires
 number16-requires c κs = search needs
 
+-- what is known where the demand is read
+known : (c : tie.After-number16)
+    → Known (c .before .before .before .before .before .before .before .before .before .before .before .before .before .before .before .args .booths) (c .before .before .before .before .before .before .before .before .before .before .before .before .before .before .before .args .tasks .now) (c .before .before .before .before .before .before .before .before .before .before .before .before .before .before .before .args .h) (c .before .before .before .before .before .before .before .before .before .before .before .before .before .before .before .args .before) (c .before .before .before .before .before .before .before .before .before .before .before .before .before .before .before .args .bytes .now) (c .before .before .before .before .before .before .before .before .before .before .before .before .before .before .before .args .at)
+unfolding entryAt
+known c =
+    let tick = c .before .before .before .before .before .before .before .before .before .before .number32 .ensures in
+    let booth = c .before .before .before .before .before .before .wide .ensures .0 in
+    let task = c .before .before .before .wide2 .ensures .0 in
+    record {
+      eight = c .before .before .before .before .before .before .before .before .before .before .before .before .if1 .left;
+      whole = c .before .before .before .before .before .before .before .before .before .before .before .if2 .left;
+      early = omega (arith, tick, c .before .before .before .before .before .before .before .before .before .if3 .left);
+      later = omega (arith, tick, c .before .before .before .before .before .before .before .before .if4 .left);
+      booth = omega (arith, booth, c .before .before .before .before .before .if5 .left);
+      task = rw (← booth, ← task) (c .before .if6 .left);
+    }
+
 fault-at-requires-7 : tie.Need-fault-at-requires-7
 fault-at-requires-7 c κs = search needs
 
 returns-7 : tie.Need-returns-7
-unfolding heldChecks entryAt firstFault refuseIf
+unfolding entryAt firstFault refuseIf
 returns-7 c =
+    let start = c .before .before .before .before .before .before .before .before .before .before .before .before .before .before .before .before .before in
+    let left = demand-left (start .args .booths) (start .args .tasks .now) (start .args .longest .now) (start .args .h) (start .args .before) (start .args .bytes .now) (start .args .at) (known (c .before .before)) in
     simp (
       c .fault-at7 .ensures,
-      ← (c .before .before .before .before .before .before .before .before .before .before .before .before .number32 .ensures),
-      ← (c .before .before .before .before .before .before .before .before .wide .ensures .0),
-      ← (c .before .before .before .before .before .wide2 .ensures .0),
+      left,
       ← (c .before .before .number16 .ensures .0),
-      eq-eqb _ _ (c .before .before .before .before .before .before .before .before .before .before .before .before .before .before .if1 .left),
-      le-ltb _ _ (c .before .before .before .before .before .before .before .before .before .before .before .before .before .if2 .left),
-      lt-leb _ _ (c .before .before .before .before .before .before .before .before .before .before .before .if3 .left),
-      le-ltb _ _ (c .before .before .before .before .before .before .before .before .before .before .if4 .left),
-      lt-leb _ _ (c .before .before .before .before .before .before .before .if5 .left),
-      lt-leb _ _ (c .before .before .before .if6 .left),
       eq-eqb _ _ (c .before .if7 .taken),
     )
 
@@ -181,44 +193,38 @@ mul-if8-2 : tie.Need-mul-if8-2
 mul-if8-2 c = search needs
 
 element-copy-out-if8 : tie.Need-element-copy-out-if8
-element-copy-out-if8 c = ?
+element-copy-out-if8 c =
+    let start = c .before .before .before .before .before .before .before .before .before .before .before .before .before .before .before .before in
+    omega (arith, start .pre .1 .few, start .pre .1 .each (c .before .before .before .before .before .before .before .wide .result) (omega arith), c .before .before .if6 .left)
 
 fault-at-requires-8 : tie.Need-fault-at-requires-8
 fault-at-requires-8 c κs = search needs
 
 returns-8 : tie.Need-returns-8
-unfolding heldChecks entryAt firstFault refuseIf
+unfolding entryAt firstFault refuseIf
 returns-8 c =
+    let start = c .before .before .before .before .before .before .before .before .before .before .before .before .before .before .before .before .before .before .before in
+    let left = demand-left (start .args .booths) (start .args .tasks .now) (start .args .longest .now) (start .args .h) (start .args .before) (start .args .bytes .now) (start .args .at) (known (c .before .before .before .before)) in
     simp (
       c .fault-at8 .ensures,
-      ← (c .before .before .before .before .before .before .before .before .before .before .before .before .before .before .number32 .ensures),
+      left,
+      ← (c .before .before .before .before .number16 .ensures .0),
       ← (c .before .before .before .before .before .before .before .before .before .before .wide .ensures .0),
       ← (c .before .before .before .before .before .before .before .wide2 .ensures .0),
-      ← (c .before .before .before .before .number16 .ensures .0),
-      eq-eqb _ _ (c .before .before .before .before .before .before .before .before .before .before .before .before .before .before .before .before .if1 .left),
-      le-ltb _ _ (c .before .before .before .before .before .before .before .before .before .before .before .before .before .before .before .if2 .left),
-      lt-leb _ _ (c .before .before .before .before .before .before .before .before .before .before .before .before .before .if3 .left),
-      le-ltb _ _ (c .before .before .before .before .before .before .before .before .before .before .before .before .if4 .left),
-      lt-leb _ _ (c .before .before .before .before .before .before .before .before .before .if5 .left),
-      lt-leb _ _ (c .before .before .before .before .before .if6 .left),
       ne-eqb _ _ (c .before .before .before .if7 .left),
       lt-ltb _ _ (c .before .if8 .taken),
     )
 
 returns-9 : tie.Need-returns-9
-unfolding heldChecks entryAt firstFault refuseIf faultOf
+unfolding entryAt firstFault refuseIf faultOf
 returns-9 c =
+    let start = c .before .before .before .before .before .before .before .before .before .before .before .before .before .before .before .before .before .before in
+    let left = demand-left (start .args .booths) (start .args .tasks .now) (start .args .longest .now) (start .args .h) (start .args .before) (start .args .bytes .now) (start .args .at) (known (c .before .before .before)) in
     simp (
-      ← (c .before .before .before .before .before .before .before .before .before .before .before .before .before .number32 .ensures),
+      left,
+      ← (c .before .before .before .number16 .ensures .0),
       ← (c .before .before .before .before .before .before .before .before .before .wide .ensures .0),
       ← (c .before .before .before .before .before .before .wide2 .ensures .0),
-      ← (c .before .before .before .number16 .ensures .0),
-      eq-eqb _ _ (c .before .before .before .before .before .before .before .before .before .before .before .before .before .before .before .if1 .left),
-      le-ltb _ _ (c .before .before .before .before .before .before .before .before .before .before .before .before .before .before .if2 .left),
-      lt-leb _ _ (c .before .before .before .before .before .before .before .before .before .before .before .before .if3 .left),
-      le-ltb _ _ (c .before .before .before .before .before .before .before .before .before .before .before .if4 .left),
-      lt-leb _ _ (c .before .before .before .before .before .before .before .before .if5 .left),
-      lt-leb _ _ (c .before .before .before .before .if6 .left),
       ne-eqb _ _ (c .before .before .if7 .left),
       le-ltb _ _ (c .if8 .left),
     )
