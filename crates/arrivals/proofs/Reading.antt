@@ -234,9 +234,11 @@ module _ (ls : List Line) (bs : List ℕ) where
   unfolding readLog
   horizon-refused r h e = rw (second-run (headChecks bs) (horizonChecks bs) h ∙ e, readLog)
 
-  pub entries-read : firstFault (headChecks bs) ≡ none → firstFault (horizonChecks bs) ≡ none → readLog ls bs ≡ withHorizon (logH bs) (readEntries 4096 ls (logH bs) 0 bs 9)
+  -- past both runs of checks it is what the entries are
+  pub entries-read : firstFault (headChecks bs) ≡ none → firstFault (horizonChecks bs) ≡ none → (o : Taken (List Entry)) → readEntries 4096 ls (logH bs) 0 bs 9 ≡ o
+      → readLog ls bs ≡ withHorizon (logH bs) o
   unfolding readLog
-  entries-read h e = rw (second-run (headChecks bs) (horizonChecks bs) h ∙ e, readLog)
+  entries-read h e o q = rw (second-run (headChecks bs) (horizonChecks bs) h ∙ e, readLog) (ap (withHorizon (logH bs)) q)
 
   -- a refusal answered
   pub refused-answer : (a : LogAnswer) (r : Refusal) → a ≡ refusedLog r → readLog ls bs ≡ refused r → a ≡ answered (readLog ls bs)
