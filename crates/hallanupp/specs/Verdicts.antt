@@ -1,0 +1,35 @@
+-- The verdict on a table, on a table with a log, and how a verdict stands in a C struct.
+use mathlib.Core.List.{List}
+use Prim.Native.Nat.{ℕ}
+use Rattle.rules.specs.declared.Refusal.{Refusal}
+use Rattle.rules.specs.declared.Refused.{Refused}
+use Rattle.rules.specs.declared.Refused.the-variants.{Nothing, TheTable, TheLog, TheCall}
+use Rattle.rules.specs.declared.Verdict.{Verdict}
+use Rattle.rules.specs.Refusals.{Taken, taken, refused, accepted, refusedAs}
+use Rattle.rules.specs.ArrivalLog.{readLog}
+use Rattle.rules.specs.Admission.{readTable}
+use Rattle.hallanupp.specs.declared.CVerdict.{CVerdict}
+
+unfoldable pub tableVerdict : List ℕ → Verdict
+tableVerdict tableBytes = elim (readTable tableBytes) [ refused r ↦ refusedAs TheTable r | taken ls ↦ accepted ]
+
+-- the table first
+unfoldable pub filesVerdict : List ℕ → List ℕ → Verdict
+filesVerdict tableBytes logBytes =
+    elim (readTable tableBytes) [
+      | refused r ↦ refusedAs TheTable r
+      | taken ls ↦ elim (readLog ls logBytes) [ refused r ↦ refusedAs TheLog r | taken log ↦ accepted ]
+    ]
+
+unfoldable pub refusedInC : ℕ → Refusal → CVerdict
+refusedInC what r = record { refused = what; number = r .number; place = r .place }
+
+-- 0 nothing, 1 the booth table, 2 the arrival log, 3 the call itself
+unfoldable pub whatInC : Refused → ℕ
+whatInC Nothing = 0
+whatInC TheTable = 1
+whatInC TheLog = 2
+whatInC TheCall = 3
+
+unfoldable pub inC : Verdict → CVerdict
+inC v = refusedInC (whatInC (v .refused)) (v .refusal)

@@ -1,0 +1,60 @@
+// The C boundary: thin functions over the proved readers. include/hallanupp.h documents each for its callers.
+ghost use mathlib.Core.Path.{_≡_};
+ghost use Rattle.hallanupp.specs.Verdicts.{tableVerdict, filesVerdict, inC, refusedInC};
+use rules::Refusal;
+
+// What is refused: 0 nothing, 1 the booth table, 2 the arrival log, 3 the call itself; then number and place.
+#[repr(C)]
+pub struct CVerdict {
+    pub refused: u32,
+    pub number: u32,
+    pub place: u64,
+}
+
+fn c_verdict(refused: u32, refusal: Refusal) -> CVerdict
+    ensures { λ r. ⌜ r ≡ refusedInC refused refusal ⌝ }
+{
+    CVerdict {
+        refused,
+        number: refusal.number,
+        place: refusal.place as u64,
+    }
+}
+
+#[no_mangle]
+pub extern "C" fn hallanupp_table_verdict(table: &[u8]) -> CVerdict
+    ensures { λ r. ⌜ r ≡ inC (tableVerdict (now (table .entry))) ⌝ }
+{
+    let read = table::read_table(table);
+    let refusal = read.refusal;
+    if refusal.number != 0 {
+        return c_verdict(1, refusal);
+    }
+    let none = Refusal {
+        number: 0,
+        place: 0,
+    };
+    c_verdict(0, none)
+}
+
+#[no_mangle]
+pub extern "C" fn hallanupp_files_verdict(table: &[u8], log: &[u8]) -> CVerdict
+    ensures { λ r. ⌜ r ≡ inC (filesVerdict (now (table .entry)) (now (log .entry))) ⌝ }
+{
+    let read = table::read_table(table);
+    let refusal = read.refusal;
+    if refusal.number != 0 {
+        return c_verdict(1, refusal);
+    }
+    let lines = read.table;
+    let logged = arrivals::read_log(lines, log);
+    let log_refusal = logged.refusal;
+    if log_refusal.number != 0 {
+        return c_verdict(2, log_refusal);
+    }
+    let none = Refusal {
+        number: 0,
+        place: 0,
+    };
+    c_verdict(0, none)
+}
