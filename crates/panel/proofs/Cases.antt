@@ -23,7 +23,7 @@ use Rattle.rules.specs.BoothTable.{Line, no-line}
 use Rattle.rules.specs.Admission.{readTable}
 use Rattle.rules.specs.Due.{due}
 use Rattle.rules.specs.Session.{count}
-use Rattle.rules.specs.Panel.{share, no-share, Reading, none-yet, below, at-ceiling, over, readingOf, PanelRow, panelRow, noPanel, panelChecks, panel}
+use Rattle.rules.specs.Panel.{share, no-share, none-yet, below, at-ceiling, over, readingOf, panelRow, noPanel, panelChecks, panel}
 use Rattle.rules.proofs.Checks.{passed}
 use Rattle.panel.specs.Exact.{ExactAtPowers, ExactPanel}
 use Rattle.panel.proofs.Exact.{share-exact}

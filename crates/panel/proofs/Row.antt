@@ -10,7 +10,7 @@ use lib.ListN.{length, take, drop}
 use Rattle.rules.specs.declared.Refusal.{Refusal}
 use Rattle.rules.specs.declared.Refused.the-variants.{TheCall}
 use Rattle.rules.specs.Refusals.{firstFault, accepted, refusedAs}
-use Rattle.rules.specs.RowBack.{RowAnswer, rowChecks, rowBack}
+use Rattle.rules.specs.RowBack.{rowChecks, rowBack}
 use Rattle.rules.proofs.Checks.{passed}
 
 -- booth 7 of the longest session starts at 7,000,000

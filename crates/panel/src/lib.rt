@@ -4,6 +4,7 @@ ghost use mathlib.Core.Option.{some};
 ghost use Prim.Native.Nat.{_≤_, _<_};
 ghost use lib.ListN.{length, take};
 ghost use Rattle.rules.specs.declared.Refused.the-variants.{TheCall};
+ghost use Rattle.rules.specs.Refusals as numbers;
 ghost use Rattle.rules.specs.Refusals.{refusal, refusedAs, firstFault, faultOf};
 ghost use Rattle.rules.specs.Session as session;
 ghost use Rattle.rules.specs.RowBack as row;
@@ -31,6 +32,18 @@ pub struct PanelRow {
     pub promised: f64,
     pub got: f64,
     pub reading: Reading,
+}
+
+fn accepted() -> Verdict
+    ensures { λ r. ⌜ r ≡ numbers.accepted ⌝ }
+{
+    Verdict {
+        refused: Refused::Nothing,
+        refusal: Refusal {
+            number: 0,
+            place: 0,
+        },
+    }
 }
 
 fn fault(number: u32) -> Fault
@@ -68,13 +81,7 @@ pub fn row_verdict(own: &[u8], h: usize, booth: usize, count: usize) -> Verdict
             refusal,
         };
     }
-    Verdict {
-        refused: Refused::Nothing,
-        refusal: Refusal {
-            number: 0,
-            place: 0,
-        },
-    }
+    accepted()
 }
 
 // The caller's own bytes, `count` of them from `booth` times `h`, or the empty part.
@@ -131,13 +138,7 @@ fn panel_row(promise: Promise, worked: u32, t: u32) -> PanelRow
     requires { ⌜ (0 < promise .period) × (promise .allowance ≤ promise .period) ⌝ }
     ensures { λ r. ⌜ r ≡ shownRow (page.panelRow promise worked t) ⌝ }
 {
-    let verdict = Verdict {
-        refused: Refused::Nothing,
-        refusal: Refusal {
-            number: 0,
-            place: 0,
-        },
-    };
+    let verdict = accepted();
     let promised = share(promise.allowance, promise.period);
     if t == 0 {
         return PanelRow {

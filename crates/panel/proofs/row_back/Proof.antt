@@ -47,7 +47,7 @@ part-result-start-2 : tie.Need-part-result-start-2
 part-result-start-2 c = search needs
 
 part-result-end-2 : tie.Need-part-result-end-2
-part-result-end-2 c = (row-within _ _ _ _ (nothing-found _ (sym (c .before .before .row-fault .ensures) ∙ c .enum-told2 .given .1))) .end
+part-result-end-2 c = omega (arith, (row-within _ _ _ _ (nothing-found _ (sym (c .before .before .row-fault .ensures) ∙ c .enum-told2 .given .1))) .end)
 
 returns-2 : tie.Need-returns-2
 returns-2 c =

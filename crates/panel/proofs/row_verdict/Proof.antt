@@ -1,7 +1,7 @@
 -- `panel::row_verdict` meets its contract: the fault found is the verdict's. Assumes nothing.
 use mathlib.Core.Path.{sym, ap, _∙_}
 use borrow.Author.Needs.{needs}
-use Rattle.rules.specs.Refusals.{refusal, accepted, refusedAs}
+use Rattle.rules.specs.Refusals.{refusedAs}
 use Rattle.rules.proofs.Checks.{nothing-found, fault-found}
 use Rattle.panel.proofs.Row.{row-refused, row-given}
 use Rattle.panel.proofs.row_verdict.Statement.{statement}
@@ -20,9 +20,11 @@ returns c = sym (ap (λ a. a .verdict) (row-refused _ _ _ _ _ (fault-found _ _ (
 enum-told : tie.Need-enum-told
 enum-told c = search needs
 
+accepted-requires : tie.Need-accepted-requires
+accepted-requires c κs = search needs
+
 returns-2 : tie.Need-returns-2
-unfolding accepted refusal
-returns-2 c = sym (ap (λ a. a .verdict) (row-given _ _ _ _ (nothing-found _ (sym (c .before .before .row-fault .ensures) ∙ c .enum-told .given .1))))
+returns-2 c = c .accepted .ensures ∙ sym (ap (λ a. a .verdict) (row-given _ _ _ _ (nothing-found _ (sym (c .before .before .before .row-fault .ensures) ∙ c .before .enum-told .given .1))))
 
 pub row-verdict-spec : {M : Type 1} → statement M
-row-verdict-spec = tie.close (tie.spec row-fault-requires enum-known-refusal returns enum-told returns-2)
+row-verdict-spec = tie.close (tie.spec row-fault-requires enum-known-refusal returns enum-told accepted-requires returns-2)
