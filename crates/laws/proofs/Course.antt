@@ -78,7 +78,9 @@ fresh-size : (l : Line) (es : List Entry) → length ((freshBooth l es) .row) �
 unfolding freshBooth
 fresh-size l es = refl
 
-module _ (ls : List Line) (es : List Entry) (as-read : AsRead ls es) where
+-- ---- what holds on the way
+
+module _ (ls : List Line) (es : List Entry) where
   -- booth j as the engine keeps it at t: settled later it is the session's, and it cannot work before w
   pub record Kept (t j : ℕ) (b : Booth) (w : ℕ) : Type 0 where
     pub order : InOrder t b
@@ -86,25 +88,7 @@ module _ (ls : List Line) (es : List Entry) (as-read : AsRead ls es) where
     pub alike : settle t b ≡ boothAt ls es t j
     pub asleep : (s : ℕ) → t ≤ s → s < w → mayWork s (settle s b) ≡ false
 
-  booths : ℕ → List Booth
-  booths t = (settledAt t ls es) .booths
-
-  next-booths : (t : ℕ) (bs : List Booth) → turn t (booths t) ≡ bs → (j : ℕ) → j < length ls → length bs ≡ length ls → boothAt ls es (suc t) j ≡ settle (suc t) (getD bs j nobooth)
-  unfolding booths settledAt Rattle.rules.specs.Moves.playTicks Rattle.rules.specs.Moves.play settleAll
-  next-booths t bs e j h n =
-      ap (λ x. getD (map (settle (suc t)) x) j nobooth) e ∙ getD-map (settle (suc t)) bs j nobooth nobooth (omega (arith, n))
-
-  -- a booth that did not work is kept as it was
-  kept-on : (t j : ℕ) (b : Booth) (w : ℕ) → Kept t j b w → boothAt ls es (suc t) j ≡ settle (suc t) (boothAt ls es t j) → Kept (suc t) j b w
-  kept-on t j b w k e =
-      record {
-        order = in-order-later t (suc t) b (k .order) (omega arith);
-        size = k .size;
-        alike = sym (settle-again t (suc t) b (k .order) (omega arith)) ∙ ap (settle (suc t)) (k .alike) ∙ sym e;
-        asleep = λ s h l. k .asleep s (omega arith) l;
-      }
-
-  module _ (H : ℕ) (wall₀ own₀ : List ℕ) (wall-room : H ≤ length wall₀) (own-room : length ls * H ≤ length own₀) where
+  module _ (H : ℕ) (wall₀ own₀ : List ℕ) where
     -- t wall ticks are played, and of the booths at t the first i were asked in vain
     pub record Course (t i : ℕ) (bs : List Booth) (wakes worked : List ℕ) (idle : ℕ) (wall own : List ℕ) : Type 0 where
       pub few : length bs ≡ length ls
@@ -116,6 +100,36 @@ module _ (ls : List Line) (es : List Entry) (as-read : AsRead ls es) where
       pub worked-is : (j : ℕ) → j < length ls → getD worked j 0 ≡ count j ((settledAt t ls es) .wall)
       pub idle-is : idle ≡ count nobody ((settledAt t ls es) .wall)
 
+    -- all booths before i are settled at H, the others are still to settle
+    pub record Closing (i : ℕ) (bs : List Booth) (own : List ℕ) : Type 0 where
+      pub few : length bs ≡ length ls
+      pub done : (j : ℕ) → j < i → getD bs j nobooth ≡ boothAt ls es H j
+      pub left : (j : ℕ) → i ≤ j → j < length ls → Kept H j (getD bs j nobooth) 0
+      pub short : ShortRows H bs
+      pub rows : own ≡ writeRows H 0 bs own₀
+
+-- ---- its steps
+
+module _ (ls : List Line) (es : List Entry) (as-read : AsRead ls es) where
+  booths : ℕ → List Booth
+  booths t = (settledAt t ls es) .booths
+
+  next-booths : (t : ℕ) (bs : List Booth) → turn t (booths t) ≡ bs → (j : ℕ) → j < length ls → length bs ≡ length ls → boothAt ls es (suc t) j ≡ settle (suc t) (getD bs j nobooth)
+  unfolding booths settledAt Rattle.rules.specs.Moves.playTicks Rattle.rules.specs.Moves.play settleAll
+  next-booths t bs e j h n =
+      ap (λ x. getD (map (settle (suc t)) x) j nobooth) e ∙ getD-map (settle (suc t)) bs j nobooth nobooth (omega (arith, n))
+
+  -- a booth that did not work is kept as it was
+  kept-on : (t j : ℕ) (b : Booth) (w : ℕ) → Kept ls es t j b w → boothAt ls es (suc t) j ≡ settle (suc t) (boothAt ls es t j) → Kept ls es (suc t) j b w
+  kept-on t j b w k e =
+      record {
+        order = in-order-later t (suc t) b (k .order) (omega arith);
+        size = k .size;
+        alike = sym (settle-again t (suc t) b (k .order) (omega arith)) ∙ ap (settle (suc t)) (k .alike) ∙ sym e;
+        asleep = λ s h l. k .asleep s (omega arith) l;
+      }
+
+  module _ (H : ℕ) (wall₀ own₀ : List ℕ) (wall-room : H ≤ length wall₀) (own-room : length ls * H ≤ length own₀) where
     -- one byte more in the wall record
     wall-more : (t x : ℕ) (wall : List ℕ) → t < H → wall ≡ written 0 ((settledAt t ls es) .wall) wall₀ → worker t 0 (booths t) ≡ x
         → set wall t x ≡ written 0 ((settledAt (suc t) ls es) .wall) wall₀
@@ -134,8 +148,8 @@ module _ (ls : List Line) (es : List Entry) (as-read : AsRead ls es) where
         ∙ ap (λ r. r ++ drop (0 + length r) wall₀) (sym (wall-step ls es t))
 
     -- no booth may work at t
-    pub nobody-works : (t i : ℕ) (bs : List Booth) (wakes worked : List ℕ) (idle : ℕ) (wall own : List ℕ) → Course t i bs wakes worked idle wall own
-        → i ≡ length ls → t < H → Course (suc t) 0 bs wakes worked (suc idle) (set wall t nobody) own
+    pub nobody-works : (t i : ℕ) (bs : List Booth) (wakes worked : List ℕ) (idle : ℕ) (wall own : List ℕ) → Course ls es H wall₀ own₀ t i bs wakes worked idle wall own
+        → i ≡ length ls → t < H → Course ls es H wall₀ own₀ (suc t) 0 bs wakes worked (suc idle) (set wall t nobody) own
     unfolding booths
     nobody-works t i bs wakes worked idle wall own c all h =
         let none = none-works t (booths t) nobooth (λ j l. c .asked j (omega (arith, all, length-booths ls es t))) in
@@ -155,8 +169,8 @@ module _ (ls : List Line) (es : List Entry) (as-read : AsRead ls es) where
         }
 
     -- booth i still sleeps, and is passed over
-    pub sleeps : (t i : ℕ) (bs : List Booth) (wakes worked : List ℕ) (idle : ℕ) (wall own : List ℕ) → Course t i bs wakes worked idle wall own
-        → i < length ls → t < getD wakes i 0 → Course t (suc i) bs wakes worked idle wall own
+    pub sleeps : (t i : ℕ) (bs : List Booth) (wakes worked : List ℕ) (idle : ℕ) (wall own : List ℕ) → Course ls es H wall₀ own₀ t i bs wakes worked idle wall own
+        → i < length ls → t < getD wakes i 0 → Course ls es H wall₀ own₀ t (suc i) bs wakes worked idle wall own
     sleeps t i bs wakes worked idle wall own c there h =
         record {
           few = c .few;
@@ -194,7 +208,7 @@ module _ (ls : List Line) (es : List Entry) (as-read : AsRead ls es) where
         go (no e) = subst P (sym (getD-set-other xs i j x d e)) (g e)
 
     -- a settled booth's row begins with what it was before and is at most H long
-    settled-row : (t i : ℕ) (b : Booth) (w : ℕ) → Kept t i b w → t ≤ H → (length ((settle t b) .row) ≡ (settle t b) .u) × ((settle t b) .u ≤ H) × (take (length (b .row)) ((settle t b) .row) ≡ b .row)
+    settled-row : (t i : ℕ) (b : Booth) (w : ℕ) → Kept ls es t i b w → t ≤ H → (length ((settle t b) .row) ≡ (settle t b) .u) × ((settle t b) .u ≤ H) × (take (length (b .row)) ((settle t b) .row) ≡ b .row)
     settled-row t i b w k h =
         let l = settle-longer t b (k .order) in
         let o = settled-in-order t b (k .order) in (
@@ -204,15 +218,15 @@ module _ (ls : List Line) (es : List Entry) (as-read : AsRead ls es) where
         )
 
     -- booth i is settled and asked in vain, and sleeps until w
-    pub passed-over : (t i : ℕ) (bs : List Booth) (wakes worked : List ℕ) (idle : ℕ) (wall own : List ℕ) → Course t i bs wakes worked idle wall own
+    pub passed-over : (t i : ℕ) (bs : List Booth) (wakes worked : List ℕ) (idle : ℕ) (wall own : List ℕ) → Course ls es H wall₀ own₀ t i bs wakes worked idle wall own
         → i < length ls → t ≤ H → i < length wakes → (b : Booth) → b ≡ settle t (getD bs i nobooth) → mayWork t b ≡ false
         → (w : ℕ) → ((s : ℕ) → t ≤ s → s < w → mayWork s (settle s b) ≡ false)
         → (part : List ℕ) → part ≡ b .row ++ drop (length (b .row)) (take H (drop (i * H) own))
-        → Course t (suc i) (set bs i b) (set wakes i w) worked idle wall (take (i * H) own ++ (part ++ drop H (drop (i * H) own)))
+        → Course ls es H wall₀ own₀ t (suc i) (set bs i b) (set wakes i w) worked idle wall (take (i * H) own ++ (part ++ drop H (drop (i * H) own)))
     passed-over t i bs wakes worked idle wall own c there h room b is may-not w slumbers part p =
         record {
           few = length-set bs i b ∙ c .few;
-          booth = λ j l. at-set bs i j b nobooth (λ x. Kept t j x (getD (set wakes i w) j 0)) (omega (arith, c .few)) (mine j) (other j l);
+          booth = λ j l. at-set bs i j b nobooth (λ x. Kept ls es t j x (getD (set wakes i w) j 0)) (omega (arith, c .few)) (mine j) (other j l);
           asked = λ j l. asked j (ℕ-discrete j i) l;
           short = short-set H bs b i (c .short) short;
           rows = lengthened-row t i bs b own part (c .short) (c .few) (c .rows) there short longer p;
@@ -221,7 +235,7 @@ module _ (ls : List Line) (es : List Entry) (as-read : AsRead ls es) where
           idle-is = c .idle-is;
         }
       where
-        k : Kept t i (getD bs i nobooth) (getD wakes i 0)
+        k : Kept ls es t i (getD bs i nobooth) (getD wakes i 0)
         k = c .booth i there
 
         r : (length ((settle t (getD bs i nobooth)) .row) ≡ (settle t (getD bs i nobooth)) .u) × ((settle t (getD bs i nobooth)) .u ≤ H)
@@ -243,7 +257,7 @@ module _ (ls : List Line) (es : List Entry) (as-read : AsRead ls es) where
         again : settle t b ≡ boothAt ls es t i
         again = ap (settle t) is ∙ settle-again t t (getD bs i nobooth) (k .order) (omega arith) ∙ k .alike
 
-        mine : (j : ℕ) → j ≡ i → Kept t j b (getD (set wakes i w) j 0)
+        mine : (j : ℕ) → j ≡ i → Kept ls es t j b (getD (set wakes i w) j 0)
         mine j e =
             record {
               order = order;
@@ -252,24 +266,24 @@ module _ (ls : List Line) (es : List Entry) (as-read : AsRead ls es) where
               asleep = λ s u v. slumbers s u (subst (λ x. s < x) (ap (λ x. getD (set wakes i w) x 0) e ∙ getD-set-same wakes i w 0 room) v);
             }
 
-        other : (j : ℕ) → j < length ls → j ≢ i → Kept t j (getD bs j nobooth) (getD (set wakes i w) j 0)
-        other j l e = subst (Kept t j (getD bs j nobooth)) (sym (getD-set-other wakes i j w 0 e)) (c .booth j l)
+        other : (j : ℕ) → j < length ls → j ≢ i → Kept ls es t j (getD bs j nobooth) (getD (set wakes i w) j 0)
+        other j l e = subst (Kept ls es t j (getD bs j nobooth)) (sym (getD-set-other wakes i j w 0 e)) (c .booth j l)
 
         asked : (j : ℕ) → Dec (j ≡ i) → j < suc i → mayWork t (boothAt ls es t j) ≡ false
         asked j (yes e) l = ap (λ x. mayWork t (boothAt ls es t x)) e ∙ ap (mayWork t) (sym (k .alike)) ∙ ap (mayWork t) (sym is) ∙ may-not
         asked j (no e) l = c .asked j (omega arith)
 
     -- booth i is settled, may work and works
-    pub plays : (t i : ℕ) (bs : List Booth) (wakes worked : List ℕ) (idle : ℕ) (wall own : List ℕ) → Course t i bs wakes worked idle wall own
+    pub plays : (t i : ℕ) (bs : List Booth) (wakes worked : List ℕ) (idle : ℕ) (wall own : List ℕ) → Course ls es H wall₀ own₀ t i bs wakes worked idle wall own
         → i < length ls → t < H → i < length wakes → i < length worked → (b : Booth) → b ≡ settle t (getD bs i nobooth) → mayWork t b ≡ true
         → (w : ℕ) → ((s : ℕ) → suc t ≤ s → s < w → mayWork s (settle s (work b)) ≡ false)
         → (part : List ℕ) → part ≡ (work b) .row ++ drop (length ((work b) .row)) (take H (drop (i * H) own))
-        → Course (suc t) 0 (set bs i (work b)) (set wakes i w) (set worked i (suc (getD worked i 0))) idle (set wall t i) (take (i * H) own ++ (part ++ drop H (drop (i * H) own)))
+        → Course ls es H wall₀ own₀ (suc t) 0 (set bs i (work b)) (set wakes i w) (set worked i (suc (getD worked i 0))) idle (set wall t i) (take (i * H) own ++ (part ++ drop H (drop (i * H) own)))
     unfolding booths
     plays t i bs wakes worked idle wall own c there h room room' b is may w slumbers part p =
         record {
           few = length-set bs i (work b) ∙ c .few;
-          booth = λ j l. at-set bs i j (work b) nobooth (λ x. Kept (suc t) j x (getD (set wakes i w) j 0)) (omega (arith, c .few)) (mine j) (other j l);
+          booth = λ j l. at-set bs i j (work b) nobooth (λ x. Kept ls es (suc t) j x (getD (set wakes i w) j 0)) (omega (arith, c .few)) (mine j) (other j l);
           asked = λ j l. absurd (not-suc-le-zero l);
           short = short-set H bs (work b) i (c .short) short;
           rows = lengthened-row t i bs (work b) own part (c .short) (c .few) (c .rows) there short longer p;
@@ -278,7 +292,7 @@ module _ (ls : List Line) (es : List Entry) (as-read : AsRead ls es) where
           idle-is = c .idle-is ∙ sym (ap (count nobody) wall-next ∙ count-last-other nobody i ((settledAt t ls es) .wall) (omega (arith, as-read .few)));
         }
       where
-        k : Kept t i (getD bs i nobooth) (getD wakes i 0)
+        k : Kept ls es t i (getD bs i nobooth) (getD wakes i 0)
         k = c .booth i there
 
         b-is : b ≡ boothAt ls es t i
@@ -318,7 +332,7 @@ module _ (ls : List Line) (es : List Entry) (as-read : AsRead ls es) where
             next-booths t (set ((settledAt t ls es) .booths) i (work (boothAt ls es t i))) (turned .1) j l
             (length-set ((settledAt t ls es) .booths) i (work (boothAt ls es t i)) ∙ length-booths ls es t)
 
-        mine : (j : ℕ) → j ≡ i → Kept (suc t) j (work b) (getD (set wakes i w) j 0)
+        mine : (j : ℕ) → j ≡ i → Kept ls es (suc t) j (work b) (getD (set wakes i w) j 0)
         mine j e =
             record {
               order = order;
@@ -331,9 +345,9 @@ module _ (ls : List Line) (es : List Entry) (as-read : AsRead ls es) where
               asleep = λ s u v. slumbers s u (subst (λ x. s < x) (ap (λ x. getD (set wakes i w) x 0) e ∙ getD-set-same wakes i w 0 room) v);
             }
 
-        other : (j : ℕ) → j < length ls → j ≢ i → Kept (suc t) j (getD bs j nobooth) (getD (set wakes i w) j 0)
+        other : (j : ℕ) → j < length ls → j ≢ i → Kept ls es (suc t) j (getD bs j nobooth) (getD (set wakes i w) j 0)
         other j l e =
-            subst (Kept (suc t) j (getD bs j nobooth)) (sym (getD-set-other wakes i j w 0 e))
+            subst (Kept ls es (suc t) j (getD bs j nobooth)) (sym (getD-set-other wakes i j w 0 e))
             (kept-on t j (getD bs j nobooth) (getD wakes j 0) (c .booth j l)
             (next j l ∙ ap (settle (suc t)) (getD-set-other ((settledAt t ls es) .booths) i j (work (boothAt ls es t i)) nobooth e)))
 
@@ -360,11 +374,11 @@ module _ (ls : List Line) (es : List Entry) (as-read : AsRead ls es) where
     zeros (suc n) zero = refl
     zeros (suc n) (suc j) = zeros n j
 
-    pub begins : Course 0 0 (openBooths 0 ls es) (replicate 8 0) (replicate 8 0) 0 wall₀ own₀
+    pub begins : Course ls es H wall₀ own₀ 0 0 (openBooths 0 ls es) (replicate 8 0) (replicate 8 0) 0 wall₀ own₀
     begins =
         record {
           few = length-open 0 ls es;
-          booth = λ j l. subst (λ b. Kept 0 j b (getD (replicate 8 0) j 0)) (sym (open-at 0 ls es j l ∙ ap (λ n. freshBooth (getD ls j no-line) (ownEntries n es)) (zero-add j))) (fresh j l);
+          booth = λ j l. subst (λ b. Kept ls es 0 j b (getD (replicate 8 0) j 0)) (sym (open-at 0 ls es j l ∙ ap (λ n. freshBooth (getD ls j no-line) (ownEntries n es)) (zero-add j))) (fresh j l);
           asked = λ j l. absurd (not-suc-le-zero l);
           short = short-open 0 ls;
           rows = sym (rows-open H 0 0 ls es own₀);
@@ -376,7 +390,7 @@ module _ (ls : List Line) (es : List Entry) (as-read : AsRead ls es) where
         nothing : written 0 [] wall₀ ≡ wall₀
         nothing = unfold written in refl
 
-        fresh : (j : ℕ) → j < length ls → Kept 0 j (freshBooth (getD ls j no-line) (ownEntries j es)) (getD (replicate 8 0) j 0)
+        fresh : (j : ℕ) → j < length ls → Kept ls es 0 j (freshBooth (getD ls j no-line) (ownEntries j es)) (getD (replicate 8 0) j 0)
         fresh j l =
             record {
               order = fresh-order (getD ls j no-line) (ownEntries j es) (as-read .sound j l) (own-sorted j es (as-read .sorted));
@@ -387,14 +401,7 @@ module _ (ls : List Line) (es : List Entry) (as-read : AsRead ls es) where
 
     -- ---- how it ends: all booths settle at H
 
-    pub record Closing (i : ℕ) (bs : List Booth) (own : List ℕ) : Type 0 where
-      pub few : length bs ≡ length ls
-      pub done : (j : ℕ) → j < i → getD bs j nobooth ≡ boothAt ls es H j
-      pub left : (j : ℕ) → i ≤ j → j < length ls → Kept H j (getD bs j nobooth) 0
-      pub short : ShortRows H bs
-      pub rows : own ≡ writeRows H 0 bs own₀
-
-    pub closes : (i : ℕ) (bs : List Booth) (wakes worked : List ℕ) (idle : ℕ) (wall own : List ℕ) → Course H i bs wakes worked idle wall own → Closing 0 bs own
+    pub closes : (i : ℕ) (bs : List Booth) (wakes worked : List ℕ) (idle : ℕ) (wall own : List ℕ) → Course ls es H wall₀ own₀ H i bs wakes worked idle wall own → Closing ls es H wall₀ own₀ 0 bs own
     closes i bs wakes worked idle wall own c =
         record {
           few = c .few;
@@ -404,19 +411,19 @@ module _ (ls : List Line) (es : List Entry) (as-read : AsRead ls es) where
           rows = c .rows;
         }
 
-    pub closes-one : (i : ℕ) (bs : List Booth) (own : List ℕ) → Closing i bs own → i < length ls → (b : Booth) → b ≡ settle H (getD bs i nobooth)
+    pub closes-one : (i : ℕ) (bs : List Booth) (own : List ℕ) → Closing ls es H wall₀ own₀ i bs own → i < length ls → (b : Booth) → b ≡ settle H (getD bs i nobooth)
         → (part : List ℕ) → part ≡ b .row ++ drop (length (b .row)) (take H (drop (i * H) own))
-        → Closing (suc i) (set bs i b) (take (i * H) own ++ (part ++ drop H (drop (i * H) own)))
+        → Closing ls es H wall₀ own₀ (suc i) (set bs i b) (take (i * H) own ++ (part ++ drop H (drop (i * H) own)))
     closes-one i bs own c there b is part p =
         record {
           few = length-set bs i b ∙ c .few;
           done = λ j l. at-set bs i j b nobooth (λ x. x ≡ boothAt ls es H j) (omega (arith, c .few)) (λ e. is ∙ k .alike ∙ ap (boothAt ls es H) (sym e)) (λ e. c .done j (omega arith));
-          left = λ j h l. at-set bs i j b nobooth (λ x. Kept H j x 0) (omega (arith, c .few)) (λ e. absurd (omega arith)) (λ e. c .left j (omega arith) l);
+          left = λ j h l. at-set bs i j b nobooth (λ x. Kept ls es H j x 0) (omega (arith, c .few)) (λ e. absurd (omega arith)) (λ e. c .left j (omega arith) l);
           short = short-set H bs b i (c .short) short;
           rows = lengthened-row H i bs b own part (c .short) (c .few) (c .rows) there short longer p;
         }
       where
-        k : Kept H i (getD bs i nobooth) 0
+        k : Kept ls es H i (getD bs i nobooth) 0
         k = c .left i (omega arith) there
 
         r : (length ((settle H (getD bs i nobooth)) .row) ≡ (settle H (getD bs i nobooth)) .u) × ((settle H (getD bs i nobooth)) .u ≤ H)
@@ -429,6 +436,6 @@ module _ (ls : List Line) (es : List Entry) (as-read : AsRead ls es) where
         longer : take (length ((getD bs i nobooth) .row)) (b .row) ≡ (getD bs i nobooth) .row
         longer = ap (λ x. take (length ((getD bs i nobooth) .row)) (x .row)) is ∙ r .2
 
-    pub closed : (i : ℕ) (bs : List Booth) (own : List ℕ) → Closing i bs own → i ≡ length ls → bs ≡ (settledAt H ls es) .booths
+    pub closed : (i : ℕ) (bs : List Booth) (own : List ℕ) → Closing ls es H wall₀ own₀ i bs own → i ≡ length ls → bs ≡ (settledAt H ls es) .booths
     closed i bs own c all =
         ext-getD nobooth bs ((settledAt H ls es) .booths) (c .few ∙ sym (length-booths ls es H)) (λ j l. c .done j (omega (arith, all, c .few)))
