@@ -78,6 +78,14 @@ fresh-size : (l : Line) (es : List Entry) → length ((freshBooth l es) .row) �
 unfolding freshBooth
 fresh-size l es = refl
 
+-- a list of numbers or booths with another at i
+pub at-set : {A : Type 0} (xs : List A) (i j : ℕ) (x d : A) (P : A → Type 0) → i < length xs → (j ≡ i → P x) → (j ≢ i → P (getD xs j d)) → P (getD (set xs i x) j d)
+at-set xs i j x d P h f g = go (ℕ-discrete j i)
+  where
+    go : Dec (j ≡ i) → P (getD (set xs i x) j d)
+    go (yes e) = subst P (sym (ap (λ k. getD (set xs i x) k d) e ∙ getD-set-same xs i x d h)) (f e)
+    go (no e) = subst P (sym (getD-set-other xs i j x d e)) (g e)
+
 -- ---- what holds on the way
 
 module _ (ls : List Line) (es : List Entry) where
@@ -198,14 +206,6 @@ module _ (ls : List Line) (es : List Entry) (as-read : AsRead ls es) where
         ap (λ p. take (i * H) own ++ (p ++ drop H (drop (i * H) own))) is
         ∙ ap (λ o. take (i * H) o ++ ((b .row ++ drop (length (b .row)) (take H (drop (i * H) o))) ++ drop H (drop (i * H) o))) rows
         ∙ row-moved H bs own₀ nobooth b i short fits (omega (arith, few)) room longer
-
-    -- a list of numbers or booths with another at i
-    at-set : {A : Type 0} (xs : List A) (i j : ℕ) (x d : A) (P : A → Type 0) → i < length xs → (j ≡ i → P x) → (j ≢ i → P (getD xs j d)) → P (getD (set xs i x) j d)
-    at-set xs i j x d P h f g = go (ℕ-discrete j i)
-      where
-        go : Dec (j ≡ i) → P (getD (set xs i x) j d)
-        go (yes e) = subst P (sym (ap (λ k. getD (set xs i x) k d) e ∙ getD-set-same xs i x d h)) (f e)
-        go (no e) = subst P (sym (getD-set-other xs i j x d e)) (g e)
 
     -- a settled booth's row begins with what it was before and is at most H long
     settled-row : (t i : ℕ) (b : Booth) (w : ℕ) → Kept ls es t i b w → t ≤ H → (length ((settle t b) .row) ≡ (settle t b) .u) × ((settle t b) .u ≤ H) × (take (length (b .row)) ((settle t b) .row) ≡ b .row)

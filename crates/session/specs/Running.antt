@@ -1,0 +1,128 @@
+-- What the engine's inner functions ask and give: the booths that the code keeps are the booths of the rules, and the course is the session's.
+use mathlib.Core.Path.{_≡_}
+use mathlib.Core.List.{List, [], _∷_, map}
+use Prim.Native.Nat.{ℕ, _+_, _-_, _*_, _/_, _≤_, _<_}
+use lib.ListN.{length, getD, take, replicate}
+use Rattle.rules.specs.declared.Table.{Table}
+use Rattle.rules.specs.BoothTable.{Line}
+use Rattle.rules.specs.ArrivalLog.{Entry, Log, entryAt}
+use Rattle.rules.specs.Moves.{Booth}
+use Rattle.rules.specs.Session.{ownEntries, freshBooth}
+use Rattle.rules.specs.Values.{padded, lineHeld, linesHeld, no-held-line}
+use Rattle.table.specs.Fit.{FitTable}
+use Rattle.laws.proofs.Run.{AsRead}
+use Rattle.laws.proofs.Course.{nobooth, Course, Closing}
+use Rattle.booth.specs.declared.Booth.{Booth as HeldBooth}
+use Rattle.booth.specs.Shown as shows
+use Rattle.booth.specs.Shown.{entriesFrom, waitingAt, Place, Fit}
+use Rattle.session.specs.declared.Stage.{Stage}
+
+-- the entries of an accepted log, and the log with its wall ticks
+unfoldable pub entriesOf : List ℕ → List Entry
+entriesOf bs = entriesFrom ((length bs - 9) / 9) bs 9
+
+unfoldable pub logOf : ℕ → List ℕ → Log
+logOf H bs = record { horizon = H; entries = entriesOf bs }
+
+-- stands past the end of an array of booths, where nothing is read
+abbrev pub nowhere : HeldBooth
+nowhere =
+    record {
+      number = 0;
+      line = no-held-line;
+      clock = record { 0 = 0 };
+      at = 0;
+      tick = record { 0 = 0 };
+      point = record { 0 = 0 };
+      first = 0;
+      demand = [];
+    }
+
+-- the lines of the first n booths
+unfoldable pub linesOf : ℕ → List HeldBooth → List Line
+linesOf n hs = map (λ h. lineHeld (h .line)) (take n hs)
+
+-- a held booth is a booth of the rules, but for its row, which lies in the own record
+pub record Same (bs : List ℕ) (h : HeldBooth) (b : Booth) : Type 0 where
+  pub line : b .line ≡ lineHeld (h .line)
+  pub clock : b .u ≡ h .clock .0
+  pub left : b .left ≡ take (h .line .tasks) (h .demand)
+  pub waiting : b .waiting ≡ waitingAt bs (h .number) (h .at)
+
+pub record Alike (bs : List ℕ) (n : ℕ) (hs : List HeldBooth) (booths : List Booth) : Type 0 where
+  pub size : length hs ≡ 8
+  pub fit : (j : ℕ) → j < n → Fit bs (getD hs j nowhere)
+  pub number : (j : ℕ) → j < n → (getD hs j nowhere) .number ≡ j
+  pub same : (j : ℕ) → j < n → Same bs (getD hs j nowhere) (getD booths j nobooth)
+
+-- t wall ticks are played, and of the booths at t the first i were asked in vain
+pub record Running (ls : List Line) (H : ℕ) (bs wall₀ own₀ : List ℕ) (t i : ℕ) (hs : List HeldBooth) (wakes worked : List ℕ) (idle : ℕ) (wall own : List ℕ) : Type 0 where
+  pub booths : List Booth
+  pub course : Course ls (entriesOf bs) H wall₀ own₀ t i booths wakes worked idle wall own
+  pub alike : Alike bs (length ls) hs booths
+  pub wakes-eight : length wakes ≡ 8
+  pub worked-eight : length worked ≡ 8
+  pub others : (j : ℕ) → length ls ≤ j → getD worked j 0 ≡ 0
+
+-- what every function of the engine is asked
+pub record Set (ls : List Line) (n H : ℕ) (bs own : List ℕ) : Type 0 where
+  pub count : length ls ≡ n
+  pub few : n ≤ 8
+  pub ticks : H ≤ 1000000
+  pub log : shows.Log bs
+  pub room : n * H ≤ length own
+  pub as-read : AsRead ls (entriesOf bs)
+
+pub record Opening (table : Table) (bs : List ℕ) : Type 0 where
+  pub fit : FitTable table
+  pub log : shows.Log bs
+  pub own : (j at : ℕ) → j < table .booths → Place bs at → at < length bs → (entryAt bs at) .booth ≡ j → (entryAt bs at) .task < (getD (table .lines) j no-held-line) .tasks
+
+-- every booth as document 01 opens it
+pub record Opened (table : Table) (bs : List ℕ) (hs : List HeldBooth) : Type 0 where
+  pub size : length hs ≡ 8
+  pub fit : (j : ℕ) → j < table .booths → Fit bs (getD hs j nowhere)
+  pub number : (j : ℕ) → j < table .booths → (getD hs j nowhere) .number ≡ j
+  pub line : (j : ℕ) → j < table .booths → (getD hs j nowhere) .line ≡ getD (table .lines) j no-held-line
+  pub fresh : (j : ℕ) → j < table .booths → (row : List ℕ)
+      → shows.shown bs (getD hs j nowhere) row ≡ freshBooth (lineHeld (getD (table .lines) j no-held-line)) (ownEntries j (entriesOf bs))
+
+pub record Ready (n H : ℕ) (start : List HeldBooth) (bs wall own : List ℕ) : Type 0 where
+  pub set : Set (linesOf n start) n H bs own
+  pub wall : H ≤ length wall
+  pub running : Running (linesOf n start) H bs wall own 0 0 start (replicate 8 0) (replicate 8 0) 0 wall own
+
+-- all H wall ticks are played
+pub record Ran (n H : ℕ) (start : List HeldBooth) (bs wall₀ own₀ : List ℕ) (s : Stage) (wall own : List ℕ) : Type 0 where
+  pub asked : ℕ
+  pub wakes : List ℕ
+  pub running : Running (linesOf n start) H bs wall₀ own₀ H asked (s .booths) wakes (s .worked) (s .idle) wall own
+
+-- the booths before i are settled at H; own₀ is the own record as it was lent
+pub record Ending (ls : List Line) (H : ℕ) (bs wall₀ own₀ : List ℕ) (i : ℕ) (hs : List HeldBooth) (own : List ℕ) : Type 0 where
+  pub booths : List Booth
+  pub closing : Closing ls (entriesOf bs) H wall₀ own₀ i booths own
+  pub alike : Alike bs (length ls) hs booths
+
+pub record Ended (n H : ℕ) (played : List HeldBooth) (bs own : List ℕ) : Type 0 where
+  pub lines : List Line
+  pub wall₀ : List ℕ
+  pub own₀ : List ℕ
+  pub set : Set lines n H bs own₀
+  pub same-length : length own ≡ length own₀
+  pub ending : Ending lines H bs wall₀ own₀ 0 played own
+
+-- whatever session the booths were played in, they are its booths settled at H
+abbrev pub Closed : ℕ → ℕ → List HeldBooth → List ℕ → List ℕ → List HeldBooth → List ℕ → Type 0
+Closed n H played bs own hs after = (e : Ended n H played bs own) → Ending (e .lines) H bs (e .wall₀) (e .own₀) n hs after
+
+abbrev pub Clocks : ℕ → List HeldBooth → List ℕ → Type 0
+Clocks n hs clocks = clocks ≡ padded 8 0 (map (λ h. h .clock .0) (take n hs))
+
+-- table and log were taken, and the records have room
+pub record Playable (table : Table) (bs wall own : List ℕ) (H : ℕ) : Type 0 where
+  pub opening : Opening table bs
+  pub as-read : AsRead (linesHeld table) (entriesOf bs)
+  pub ticks : H ≤ 1000000
+  pub wall-room : H ≤ length wall
+  pub own-room : table .booths * H ≤ length own

@@ -1,0 +1,205 @@
+// The plain engine: table, then log, then buffers, then every wall tick in turn, then all booths settle at H.
+ghost use mathlib.Core.Path.{_≡_};
+ghost use Prim.Native.Nat.{_+_, _*_, _≤_, _<_};
+ghost use lib.ListN.{length};
+ghost use Rattle.rules.specs.declared.Refused.the-variants.{TheCall};
+ghost use Rattle.rules.specs.Refusals.{refusal, refusedAs};
+ghost use Rattle.rules.specs.Session as page;
+ghost use Rattle.rules.specs.Values.{linesHeld};
+ghost use Rattle.session.specs.Answer as said;
+ghost use Rattle.session.specs.Running.{logOf, Opening, Opened, Ready, Ran, Ended, Closed, Clocks, Playable};
+
+use booth::Booth;
+use booth::Chosen;
+use rules::Refusal;
+use rules::Refused;
+use rules::Table;
+use rules::Verdict;
+use rules::WallTick;
+
+// What a session answers: the verdict, then for each booth its final own clock and its worked ticks, and the idle ticks.
+pub struct SessionAnswer {
+    pub verdict: Verdict,
+    pub booths: usize,
+    pub clocks: [u32; 8],
+    pub worked: [u32; 8],
+    pub idle: u32,
+}
+
+// The booths after the last wall tick, and what was counted on the way.
+pub struct Stage {
+    pub booths: [Booth; 8],
+    pub worked: [u32; 8],
+    pub idle: u32,
+}
+
+// Every booth of the table before wall tick 0.
+fn open_all(table: Table, log: &[u8]) -> [Booth; 8]
+    requires { ⌜ Opening table (now log) ⌝ }
+    ensures { λ r. ⌜ Opened table (now (log .entry)) r ⌝ }
+{
+    let lines = table.lines;
+    let n = table.booths;
+    let mut booths = [Booth::absent(); 8];
+    let mut j = 0;
+    while j < n {
+        let line = lines[j];
+        booths[j] = Booth::open(j as u8, line, log);
+        j += 1;
+    }
+    booths
+}
+
+// Wall tick after wall tick, booth after booth: i booths were asked at t in vain. A booth that cannot work before it wakes is passed over.
+fn run(start: [Booth; 8], n: usize, log: &[u8], wall: &mut [u8], own: &mut [u8], h: usize) -> Stage
+    requires { ⌜ Ready n h start (now log) (now wall) (now own) ⌝ }
+    ensures { λ r. ⌜ Ran n h start (now (log .entry)) (now (wall .entry)) (now (own .entry)) r (now (wall .exit)) (now (own .exit)) ⌝ }
+{
+    let mut booths = start;
+    let mut wakes = [0usize; 8];
+    let mut worked = [0u32; 8];
+    let mut idle: u32 = 0;
+    let mut t = 0;
+    let mut i = 0;
+    while t < h {
+        if i == n {
+            wall[t] = booth::NOBODY;
+            idle += 1;
+            t += 1;
+            i = 0;
+            continue;
+        }
+        if t < wakes[i] {
+            i += 1;
+            continue;
+        }
+        let a = i * h;
+        let row = &mut own[a..a + h];
+        let tick = WallTick(t as u32);
+        let settled = booths[i].settle(log, &mut row[..], tick);
+        let Chosen::Task(k) = settled.choose(tick) else {
+            wakes[i] = settled.wakes();
+            booths[i] = settled;
+            i += 1;
+            continue;
+        };
+        let played = settled.play(row, k);
+        wakes[i] = played.wakes();
+        booths[i] = played;
+        wall[t] = i as u8;
+        worked[i] += 1;
+        t += 1;
+        i = 0;
+    }
+    Stage {
+        booths,
+        worked,
+        idle,
+    }
+}
+
+// After the last wall tick all booths settle at H.
+fn close(played: [Booth; 8], n: usize, log: &[u8], own: &mut [u8], h: usize) -> [Booth; 8]
+    requires { ⌜ Ended n h played (now log) (now own) ⌝ }
+    ensures { λ r. ⌜ Closed n h played (now (log .entry)) (now (own .entry)) r (now (own .exit)) ⌝ }
+{
+    let mut booths = played;
+    let mut i = 0;
+    while i < n {
+        let a = i * h;
+        let row = &mut own[a..a + h];
+        let settled = booths[i].settle(log, row, WallTick(h as u32));
+        booths[i] = settled;
+        i += 1;
+    }
+    booths
+}
+
+// Each booth's final own clock; 0 where the table has no booth.
+fn clocks_of(booths: [Booth; 8], n: usize) -> [u32; 8]
+    requires { ⌜ (n ≤ 8) × (length booths ≡ 8) ⌝ }
+    ensures { λ r. ⌜ Clocks n booths r ⌝ }
+{
+    let mut clocks = [0u32; 8];
+    let mut i = 0;
+    while i < n {
+        let b = booths[i];
+        clocks[i] = b.clock.0;
+        i += 1;
+    }
+    clocks
+}
+
+// A session whose table and log were taken and whose records fit.
+fn play_all(table: Table, log: &[u8], wall: &mut [u8], own: &mut [u8], h: usize) -> SessionAnswer
+    requires { ⌜ Playable table (now log) (now wall) (now own) h ⌝ }
+    ensures answer { λ r. ⌜ r ≡ said.answered (page.played (linesHeld table) (logOf h (now (log .entry))) (now (wall .entry)) (now (own .entry))) ⌝ }
+    ensures wall { λ r. ⌜ now (wall .exit) ≡ (page.played (linesHeld table) (logOf h (now (log .entry))) (now (wall .entry)) (now (own .entry))) .wall ⌝ }
+    ensures own { λ r. ⌜ now (own .exit) ≡ (page.played (linesHeld table) (logOf h (now (log .entry))) (now (wall .entry)) (now (own .entry))) .own ⌝ }
+{
+    let n = table.booths;
+    let start = open_all(table, log);
+    let stage = run(start, n, log, wall, &mut own[..], h);
+    let played = stage.booths;
+    let booths = close(played, n, log, own, h);
+    let clocks = clocks_of(booths, n);
+    let worked = stage.worked;
+    SessionAnswer {
+        verdict: Verdict {
+            refused: Refused::Nothing,
+            refusal: Refusal {
+                number: 0,
+                place: 0,
+            },
+        },
+        booths: n,
+        clocks,
+        worked,
+        idle: stage.idle,
+    }
+}
+
+// Nothing is done, and every count is 0.
+fn nothing_done(refused: Refused, refusal: Refusal) -> SessionAnswer
+    ensures { λ r. ⌜ r ≡ said.nothingAnswered (refusedAs refused refusal) ⌝ }
+{
+    let verdict = Verdict { refused, refusal };
+    SessionAnswer {
+        verdict,
+        booths: 0,
+        clocks: [0; 8],
+        worked: [0; 8],
+        idle: 0,
+    }
+}
+
+// The session on any bytes as table and log, with any lent records.
+pub fn session(table: &[u8], log: &[u8], wall: &mut [u8], own: &mut [u8]) -> SessionAnswer
+    ensures answer { λ r. ⌜ r ≡ said.answered (page.session (now (table .entry)) (now (log .entry)) (now (wall .entry)) (now (own .entry))) ⌝ }
+    ensures wall { λ r. ⌜ now (wall .exit) ≡ (page.session (now (table .entry)) (now (log .entry)) (now (wall .entry)) (now (own .entry))) .wall ⌝ }
+    ensures own { λ r. ⌜ now (own .exit) ≡ (page.session (now (table .entry)) (now (log .entry)) (now (wall .entry)) (now (own .entry))) .own ⌝ }
+{
+    let read = table::read_table(table);
+    let table_refusal = read.refusal;
+    if table_refusal.number != 0 {
+        return nothing_done(Refused::TheTable, table_refusal);
+    }
+    let lines = read.table;
+    let logged = arrivals::read_log(lines, log);
+    let log_refusal = logged.refusal;
+    if log_refusal.number != 0 {
+        return nothing_done(Refused::TheLog, log_refusal);
+    }
+    let h = logged.horizon as usize;
+    let unfit = Refusal {
+        number: 11,
+        place: 0,
+    };
+    if wall.len() < h {
+        return nothing_done(Refused::TheCall, unfit);
+    }
+    if own.len() < lines.booths * h {
+        return nothing_done(Refused::TheCall, unfit);
+    }
+    play_all(lines, log, wall, own, h)
+}
