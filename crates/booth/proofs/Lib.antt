@@ -1,1 +1,3 @@
 pub mod Demand
+pub mod Waiting
+pub mod Rows
