@@ -1,3 +1,5 @@
 pub mod Demand
 pub mod Waiting
 pub mod Rows
+pub mod Taking
+pub mod Settling

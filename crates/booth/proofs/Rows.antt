@@ -17,7 +17,7 @@ written-none row u = rw (add-zero u) (take-append-drop u row)
 pub part-silenced : (row : List ℕ) (u n : ℕ) (part : List ℕ) → part ≡ replicate n 255 → take u row ++ (part ++ drop n (drop u row)) ≡ lengthened row u (replicate n 255)
 unfolding lengthened
 part-silenced row u n part e =
-    let after : drop n (drop u row) ≡ drop (u + length (replicate n 255)) row = drop-drop n u row ∙ ap (λ k. drop (u + k) row) (sym (length-replicate n 255)) in
+    let after : drop n (drop u row) ≡ drop (u + length (replicate {A = ℕ} n 255)) row = drop-drop n u row ∙ ap (λ k. drop (u + k) row) (sym (length-replicate {A = ℕ} n 255)) in
     rw (e, after)
 
 module _ (row : List ℕ) (u : ℕ) (ticks : List ℕ) (inside : u ≤ length row) where

@@ -149,11 +149,11 @@ impl Booth {
         ensures state { λ r. ⌜ shown (now (log .entry)) r (now (row .exit)) ≡ takenNext (shown (now (log .entry)) self (now (row .entry))) ⌝ }
         ensures row { λ r. ⌜ now (row .exit) ≡ lengthened (now (row .entry)) (self .clock .0) (replicate (self .point .0 - self .clock .0) 255) ⌝ }
     {
-        let to = self.point;
-        self = self.pass(row, to);
         let at = self.at;
         let k = rules::wide(log[at + 6]) as usize;
         let d = rules::number16(log, at + 7);
+        let to = self.point;
+        self = self.pass(row, to);
         self = self.add(k, d);
         self = self.look(log, at + 9);
         self

@@ -1,7 +1,7 @@
 -- `booth::silence` meets its contract. Assumes nothing.
 use mathlib.Core.Path.{_≡_, refl, sym, ap, _∙_}
 use mathlib.Core.List.{_++_, append-nil}
-use Prim.Native.Nat.{_+_, _-_, _≤_, _<_}
+use Prim.Native.Nat.{ℕ, _+_, _-_, _≤_, _<_}
 use native.Mathlib.Omega.{arith}
 use borrow.Author.Needs.{needs}
 use borrow.Author.Fill.{fill-none, fill-more}
@@ -43,7 +43,7 @@ returns c =
     let d = c .before .before .args .part .now in
     let n = c .before .loop in
     let end : n .i ≡ length d = omega (arith, n .inv .1) in
-    n .inv .2 ∙ ap (λ k. replicate k 255 ++ drop k d) end ∙ rw (drop-of-length-le d {i = length d} (omega arith), append-nil (replicate (length d) 255))
+    n .inv .2 ∙ ap (λ k. replicate k 255 ++ drop k d) end ∙ rw (drop-of-length-le d {i = length d} (omega arith), append-nil (replicate {A = ℕ} (length d) 255))
 
 pub silence-spec : {M : Type 1} → statement M
 silence-spec =

@@ -55,11 +55,10 @@ returns-2 c =
     let u = start .args .self .clock .0 in
     let v = start .args .to .0 in
     let row = start .args .row .now in
-    let ahead : u ≤ v = omega (arith, c .before .before .before .before .if1 .left) in
-    let there : u + (v - u) ≡ v = omega arith in
+    let there : u + (v - u) ≡ v = omega (arith, c .before .before .before .before .if1 .left) in
     (
       ap (clockAt (start .args .self)) (sym there),
-      part-silenced row u (v - u) _ (c .before .before .silence .ensures ∙ ap (λ n. replicate n 255) (mid-len u v row ahead (start .pre .1))),
+      part-silenced row u (v - u) _ (c .before .before .silence .ensures ∙ ap (λ n. replicate n 255) (mid-len u v row (start .pre .1))),
     )
 
 pub pass-spec : {M : Type 1} → statement M
