@@ -7,7 +7,7 @@ use native.Mathlib.Decide.{decLe}
 use native.Mathlib.Omega.{arith}
 use lib.Dec.{leb, eqb}
 use lib.ListN.{length, take, drop, replicate, length-replicate}
-use borrow.Author.Tests.{leb-true, leb-false}
+use borrow.Author.Tests.{leb-true, leb-false, eq-eqb, ne-eqb}
 use Rattle.rules.specs.declared.Promise.{Promise}
 use Rattle.rules.specs.declared.Line.{Line as HeldLine}
 use Rattle.rules.specs.ArrivalLog.{Entry, entryAt}
@@ -17,7 +17,7 @@ use Rattle.rules.specs.Values.{lineHeld}
 use Rattle.table.specs.Fit.{Sounds}
 use Rattle.laws.specs.Statements.{Sound}
 use Rattle.laws.proofs.DueLaws.{due-mono, due-at-most}
-use Rattle.laws.proofs.QuickSettle.{forward, addFirst, afterFirst, rest, takesFirst, settleThrough, quickSettle, InOrder}
+use Rattle.laws.proofs.QuickSettle.{forward, addFirst, afterFirst, rest, rests, takesFirst, settleThrough, quickSettle, InOrder}
 use Rattle.laws.proofs.PageSettle.{settle-quick}
 use Rattle.booth.specs.declared.Booth.{Booth as HeldBooth}
 use Rattle.booth.specs.Shown.{waitingAt, shown, takenNext, takesNext, firstOf, never, Log, Steady, Fit, clockAt, lengthened}
@@ -122,3 +122,71 @@ pub record Settling (bs : List ℕ) (t : ℕ) (h₀ : HeldBooth) (row₀ : List 
   pub behind : drop (h .clock .0) row ≡ drop (h .clock .0) row₀
   pub long : length row ≡ length row₀
   pub same : quickSettle t (shown bs h row) ≡ quickSettle t (shown bs h₀ row₀)
+
+pub settles-first : (bs : List ℕ) (t : ℕ) (h : HeldBooth) (row : List ℕ) → Fit bs h → h .clock .0 ≤ due (h .line .promise) t → Settling bs t h row h row
+settles-first bs t h row fit cap = record { fit = fit; line = refl; number = refl; grown = omega arith; cap = cap; behind = refl; long = refl; same = refl }
+
+-- a row of t own ticks has room for all that is due at t
+pub due-fits : (bs : List ℕ) (t : ℕ) (h₀ : HeldBooth) (row₀ : List ℕ) (h : HeldBooth) (row : List ℕ) → Settling bs t h₀ row₀ h row → t ≤ length row₀
+    → (h .clock .0 ≤ length row) × (due (h .line .promise) t ≤ length row)
+due-fits bs t h₀ row₀ h row s fits =
+    let most = due-at-most (h .line .promise) (sound-promise (h .line .promise) (s .fit .steady .sound)) t in
+    (omega (arith, s .cap, s .long), omega (arith, s .long))
+
+module _ (bs : List ℕ) (t : ℕ) (h₀ : HeldBooth) (row₀ : List ℕ) (h : HeldBooth) (row : List ℕ) (s : Settling bs t h₀ row₀ h row) (inside : h .clock .0 ≤ length row) where
+  -- what lies behind the ticks that are written is still as it was at first
+  pub behind-moved : (v : ℕ) → drop (h .clock .0 + (v - h .clock .0)) (lengthened row (h .clock .0) (replicate (v - h .clock .0) 255)) ≡ drop (h .clock .0 + (v - h .clock .0)) row₀
+  behind-moved v =
+      let u = h .clock .0 in
+      let ticks : List ℕ = replicate (v - u) 255 in
+      ap (λ n. drop (u + n) (lengthened row u ticks)) (sym (length-replicate {A = ℕ} (v - u) 255))
+      ∙ written-behind row u ticks inside
+      ∙ ap (λ n. drop (u + n) row) (length-replicate {A = ℕ} (v - u) 255)
+      ∙ agree-later row row₀ u (u + (v - u)) (omega arith) (s .behind)
+
+  module _ (more : h .at < length bs) (takes : takesNext t h ≡ true) (r : HeldBooth) (row' : List ℕ) (fit : Fit bs r) (line : r .line ≡ h .line) (number : r .number ≡ h .number)
+      (state : shown bs r row' ≡ takenNext (shown bs h row))
+      (written : row' ≡ lengthened row (h .clock .0) (replicate (h .point .0 - h .clock .0) 255)) (long : length row' ≡ length row) where
+    clock-taken : r .clock .0 ≡ h .clock .0 + (h .point .0 - h .clock .0)
+    unfolding shown addFirst forward releasePoint lineHeld
+    clock-taken =
+        let es = waitingAt bs (h .number) (h .at + 9) in
+        let e = entryOf bs h in
+        ap (λ (b : Booth). b .u) (state ∙ taken-next (shown bs h row) e es (first-waits bs h (s .fit) more))
+        ∙ ap (λ p. h .clock .0 + (p - h .clock .0)) (sym ((s .fit .waits .next more) .point))
+
+    -- a booth that has taken an entry is still on its way
+    pub settles-on : Settling bs t h₀ row₀ r row'
+    settles-on =
+        record {
+          fit = fit;
+          line = line ∙ s .line;
+          number = number ∙ s .number;
+          grown = omega (arith, clock-taken, s .grown);
+          cap = rw line (omega (arith, clock-taken, s .cap, point-due bs h row t (s .fit) more takes));
+          behind = ap (λ u. drop u row') clock-taken ∙ ap (drop (h .clock .0 + (h .point .0 - h .clock .0))) written ∙ behind-moved (h .point .0) ∙ ap (λ u. drop u row₀) (sym clock-taken);
+          long = long ∙ s .long;
+          same = ap (quickSettle t) state ∙ quick-taken bs h row t (s .fit) more takes ∙ s .same;
+        }
+
+  module _ (log : Log bs) (fit₀ : Fit bs h₀) (cap₀ : h₀ .clock .0 ≤ due (h₀ .line .promise) t) (stops : takesNext t h ≡ false) where
+    rests-now : rest t (shown bs h row) ≡ settle t (shown bs h₀ row₀)
+    rests-now =
+        sym (quick-left bs h row t (s .fit) stops) ∙ s .same ∙ sym (settle-quick t (shown bs h₀ row₀) (shown-in-order bs h₀ row₀ t log fit₀ cap₀))
+
+    -- with demand left it has settled
+    pub settled-busy : (h .first ≡ 8 → ⊥) → shown bs h row ≡ settle t (shown bs h₀ row₀)
+    settled-busy busy =
+        let some : noDemand ((shown bs h row) .left) ≡ false = sym (held-none bs h row (s .fit .steady)) ∙ ne-eqb (h .first) 8 busy in
+        sym (rests t (shown bs h row) (λ x. x ≡ shown bs h row) (λ q. absurd (true≢false (sym q ∙ some))) (λ q. refl)) ∙ rests-now
+
+    -- with none, once its clock has moved on to due(t)
+    pub settled-free : h .first ≡ 8 → (v : ℕ) → v ≡ due (h .line .promise) t
+        → shown bs (clockAt h (h .clock .0 + (v - h .clock .0))) (lengthened row (h .clock .0) (replicate (v - h .clock .0) 255)) ≡ settle t (shown bs h₀ row₀)
+    unfolding shown lineHeld
+    settled-free free v q =
+        let none : noDemand ((shown bs h row) .left) ≡ true = sym (held-none bs h row (s .fit .steady)) ∙ eq-eqb (h .first) 8 free in
+        shown-moved bs h row v inside
+        ∙ ap (λ x. forward x (shown bs h row)) q
+        ∙ sym (rests t (shown bs h row) (λ x. x ≡ forward (due (h .line .promise) t) (shown bs h row)) (λ z. refl) (λ z. absurd (true≢false (sym none ∙ z))))
+        ∙ rests-now

@@ -162,7 +162,7 @@ impl Booth {
     // Settle at t.
     pub fn settle(mut self, log: &[u8], row: &mut [u8], t: WallTick) -> Self
         requires { ⌜ Log (now log) × Fit (now log) self × (t .0 < 1000001) × (t .0 ≤ length (now row)) × (self .clock .0 ≤ page.due (self .line .promise) (t .0)) ⌝ }
-        ensures fit { λ r. ⌜ Fit (now (log .entry)) r × (r .line ≡ self .line) × (r .number ≡ self .number) × (self .clock .0 ≤ r .clock .0) ⌝ }
+        ensures fit { λ r. ⌜ Fit (now (log .entry)) r × (r .line ≡ self .line) × (r .number ≡ self .number) × (self .clock .0 ≤ r .clock .0) × (r .clock .0 ≤ page.due (self .line .promise) (t .0)) ⌝ }
         ensures state { λ r. ⌜ shown (now (log .entry)) r (now (row .exit)) ≡ moves.settle (t .0) (shown (now (log .entry)) self (now (row .entry))) ⌝ }
         ensures row { λ r. ⌜ drop (r .clock .0) (now (row .exit)) ≡ drop (r .clock .0) (now (row .entry)) ⌝ }
     {
