@@ -3,3 +3,4 @@ pub mod Waiting
 pub mod Rows
 pub mod Taking
 pub mod Settling
+pub mod Working

@@ -86,7 +86,7 @@ module _ (bs : List ℕ) (h : HeldBooth) (fit : Fit bs h) (more : h .at < length
         let row' = lengthened row (h .clock .0) (replicate (h .point .0 - h .clock .0) 255) in
         let es = waitingAt bs (h .number) (h .at + 9) in
         let left : addDemand (e .task) (e .demand) (take (h .line .tasks) (h .demand))
-            ≡ take (h .line .tasks) (set (h .demand) (e .task) (getD (h .demand) (e .task) 0 + e .demand)) =
+        ≡ take (h .line .tasks) (set (h .demand) (e .task) (getD (h .demand) (e .task) 0 + e .demand)) =
         add-taken (h .line .tasks) (e .task) (e .demand) (h .demand) own-task (omega (arith, own-task, fit .steady .eight, fit .steady .tasks)) in
         let seen : shown bs (lookingAt (added bs h) (r .at) (r .tick .0) (r .point .0)) row' ≡ addFirst e es (shown bs (clockAt h u) row') = rw (looked .same, left) in
         ap (λ x. shown bs x row') (looked .is)

@@ -39,12 +39,11 @@ loop-less c = search needs
 
 loop-again : tie.Need-loop-again Inv-loop μ-loop
 unfolding entryAt
-loop-again c = 
+loop-again c =
     let bs = c .before .before .before .before .args .log .now in
     let at = c .before .before .before .loop .at in
     let inv = c .before .before .before .loop .inv in
-    let inside = c .before .before .loop-test .taken in
-    (
+    let inside = c .before .before .loop-test .taken in (
       (whole-entry bs at (inv .0) inside) .1,
       omega arith,
       sym (waiting-other bs (c .before .before .before .before .args .number) at (inv .0) inside (c .if1 .left)) ∙ inv .2,

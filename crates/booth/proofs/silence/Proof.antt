@@ -30,7 +30,7 @@ loop-less : tie.Need-loop-less Inv-loop μ-loop
 loop-less c = omega (arith, c .before .loop .inv .1)
 
 loop-again : tie.Need-loop-again Inv-loop μ-loop
-loop-again c = 
+loop-again c =
     let d = c .before .before .args .part .now in
     let n = c .before .loop in
     (omega (arith, n .inv .1), length-set (n .part) (n .i) 255 ∙ n .inv .1, ap (λ x. set x (n .i) 255) (n .inv .2) ∙ fill-more (n .i) 255 d (omega (arith, n .inv .1)))

@@ -27,8 +27,7 @@ returns c =
     let v = c .before .before .before .before .args .to .0 in
     let row = c .before .before .before .before .args .row .now in
     let none : v - u ≡ 0 = omega arith in
-    let stays : u + (v - u) ≡ u = omega arith in
-    (
+    let stays : u + (v - u) ≡ u = omega arith in (
       ap (clockAt (c .before .before .before .before .args .self)) (sym stays),
       sym (ap (λ n. lengthened row u (replicate n 255)) none ∙ written-none row u),
     )
@@ -55,8 +54,7 @@ returns-2 c =
     let u = start .args .self .clock .0 in
     let v = start .args .to .0 in
     let row = start .args .row .now in
-    let there : u + (v - u) ≡ v = omega (arith, c .before .before .before .before .if1 .left) in
-    (
+    let there : u + (v - u) ≡ v = omega (arith, c .before .before .before .before .if1 .left) in (
       ap (clockAt (start .args .self)) (sym there),
       part-silenced row u (v - u) _ (c .before .before .silence .ensures ∙ ap (λ n. replicate n 255) (mid-len u v row (start .pre .1))),
     )

@@ -105,23 +105,22 @@ returns c =
     let v = c .before .before .before .before .due .result .0 in
     let point = c .before .before .before .before .due .ensures in
     let clock : pass .result .clock .0 ≡ h .clock .0 + (v - h .clock .0) = ap (λ (x : Booth). x .clock .0) (pass .ensures .0) in
-    let cap : h .clock .0 + (v - h .clock .0) ≤ due (h .line .promise) t = omega (arith, point, s .cap) in
-    (
-      (
-        subst (Fit bs) (sym (pass .ensures .0)) (fit-moved bs h (h .clock .0 + (v - h .clock .0)) (s .fit)),
-        ap (λ (x : Booth). x .line) (pass .ensures .0) ∙ s .line,
-        ap (λ (x : Booth). x .number) (pass .ensures .0) ∙ s .number,
-        omega (arith, clock, s .grown),
-        rw clock (subst (λ (l : Line). h .clock .0 + (v - h .clock .0) ≤ due (l .promise) t) (s .line) cap),
-      ),
+    let cap : h .clock .0 + (v - h .clock .0) ≤ due (h .line .promise) t = omega (arith, point, s .cap) in (
+      record {
+        fit = subst (Fit bs) (sym (pass .ensures .0)) (fit-moved bs h (h .clock .0 + (v - h .clock .0)) (s .fit));
+        line = ap (λ (x : Booth). x .line) (pass .ensures .0) ∙ s .line;
+        number = ap (λ (x : Booth). x .number) (pass .ensures .0) ∙ s .number;
+        grown = omega (arith, clock, s .grown);
+        cap = rw clock (subst (λ (l : Line). h .clock .0 + (v - h .clock .0) ≤ due (l .promise) t) (s .line) cap);
+      },
       (
         ap (λ (x : Booth). shown bs x (pass .last .1 .0)) (pass .ensures .0)
-        ∙ ap (shown bs (clockAt h (h .clock .0 + (v - h .clock .0)))) (pass .ensures .1)
-        ∙ settled-free bs t (start .args .self) (start .args .row .now) h row s (fits .0) (start .pre .0) (start .pre .1) (start .pre .4) test (c .before .before .before .before .before .before .before .if2 .taken) v point,
+            ∙ ap (shown bs (clockAt h (h .clock .0 + (v - h .clock .0)))) (pass .ensures .1)
+            ∙ settled-free bs t (start .args .self) (start .args .row .now) h row s (fits .0) (start .pre .0) (start .pre .1) (start .pre .4) test (c .before .before .before .before .before .before .before .if2 .taken) v point,
         ap (λ u. drop u (pass .last .1 .0)) clock
-        ∙ ap (drop (h .clock .0 + (v - h .clock .0))) (pass .ensures .1)
-        ∙ behind-moved bs t (start .args .self) (start .args .row .now) h row s (fits .0) v
-        ∙ ap (λ u. drop u (start .args .row .now)) (sym clock),
+            ∙ ap (drop (h .clock .0 + (v - h .clock .0))) (pass .ensures .1)
+            ∙ behind-moved bs t (start .args .self) (start .args .row .now) h row s (fits .0) v
+            ∙ ap (λ u. drop u (start .args .row .now)) (sym clock),
       ),
     )
 
@@ -137,9 +136,8 @@ returns-2 c =
     let row = c .before .before .before .before .loop .row in
     let s = c .before .before .before .before .loop .inv in
     let fits = due-fits bs t (start .args .self) (start .args .row .now) h row s (start .pre .3) in
-    let test = sym (c .before .before .before .takes .ensures) ∙ c .before .before .if1 .left in
-    (
-      (s .fit, s .line, s .number, s .grown, subst (λ (l : Line). h .clock .0 ≤ due (l .promise) t) (s .line) (s .cap)),
+    let test = sym (c .before .before .before .takes .ensures) ∙ c .before .before .if1 .left in (
+      record { fit = s .fit; line = s .line; number = s .number; grown = s .grown; cap = subst (λ (l : Line). h .clock .0 ≤ due (l .promise) t) (s .line) (s .cap) },
       (
         settled-busy bs t (start .args .self) (start .args .row .now) h row s (fits .0) (start .pre .0) (start .pre .1) (start .pre .4) test (c .if2 .left),
         s .behind,

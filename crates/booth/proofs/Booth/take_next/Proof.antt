@@ -53,8 +53,7 @@ add-requires c κs =
     let moved = c .before .before .pass .ensures .0 in
     let k = c .before .before .before .before .before .before .wide .ensures .0 in
     let d = c .before .before .before .before .before .number16 .ensures in
-    let ds : c .before .before .pass .result .demand ≡ h .demand = ap (λ (x : Booth). x .demand) moved in
-    (
+    let ds : c .before .before .pass .result .demand ≡ h .demand = ap (λ (x : Booth). x .demand) moved in (
       omega (arith, k, own-task bs h fit more, fit .steady .tasks),
       omega (arith, d .0, start .pre .0 .0 .demands (h .at) ((whole-entry bs (h .at) (fit .waits .place) more) .0) (fit .waits .place .whole)),
       ap length ds ∙ fit .steady .eight,
@@ -70,8 +69,7 @@ unfolding clockAt demanding
 look-requires c κs =
     let start = c .before .before .before .before .before .before .before .before .before .before .before in
     let fit = start .pre .0 .1 in
-    let line : c .add .result .line ≡ start .args .self .line = ap (λ (x : Booth). x .line) (c .add .ensures) ∙ ap (λ (x : Booth). x .line) (c .before .before .before .pass .ensures .0) in
-    (
+    let line : c .add .result .line ≡ start .args .self .line = ap (λ (x : Booth). x .line) (c .add .ensures) ∙ ap (λ (x : Booth). x .line) (c .before .before .before .pass .ensures .0) in (
       start .pre .0 .0,
       (whole-entry (start .args .log .now) (start .args .self .at) (fit .waits .place) (start .pre .0 .2)) .1,
       subst (λ (l : Line). Sounds (l .promise)) (sym line) (fit .steady .sound),
@@ -96,8 +94,7 @@ returns c =
     ∙ ap (λ (x : Booth). demanding x (set (x .demand) (k .result) (getD (x .demand) (k .result) 0 + d .result))) (pass .ensures .0)
     ∙ ap (λ (n : ℕ). demanding (clockAt h (h .clock .0 + (h .point .0 - h .clock .0))) (set (h .demand) n (getD (h .demand) n 0 + d .result))) (k .ensures .0)
     ∙ ap (λ (n : ℕ). demanding (clockAt h (h .clock .0 + (h .point .0 - h .clock .0))) (set (h .demand) (getD bs (h .at + 6) 0) (getD (h .demand) (getD bs (h .at + 6) 0) 0 + n))) (d .ensures .0) in
-    let looked : Looked bs (added bs h) (h .at + 9) (c .look .result) = subst (λ (x : Booth). Looked bs x (h .at + 9) (c .look .result)) is (c .look .ensures) in
-    (
+    let looked : Looked bs (added bs h) (h .at + 9) (c .look .result) = subst (λ (x : Booth). Looked bs x (h .at + 9) (c .look .result)) is (c .look .ensures) in (
       (
         fit-taken bs h fit more (start .args .row .now) (start .pre .1 .0) (c .look .result) looked (omega (arith, d .ensures)),
         omega (arith, looked .later),
