@@ -1,1 +1,6 @@
 pub mod Demand
+pub mod Waiting
+pub mod Rows
+pub mod Taking
+pub mod Settling
+pub mod Working

@@ -104,6 +104,28 @@ pub record Fit (bs : List ℕ) (h : HeldBooth) : Type 0 where
   pub own : (at : ℕ) → Place bs at → at < length bs → (entryAt bs at) .booth ≡ h .number → (entryAt bs at) .task < h .line .tasks
   pub room : (k : ℕ) → getD (h .demand) k 0 * 9 + 65535 * (length bs - h .at) ≤ 65535 * 36873
 
+-- ---- what holds of a booth after a move
+
+-- settled at t: its clock has not gone back and is not past due(t)
+pub record AfterSettle (bs : List ℕ) (t : ℕ) (h r : HeldBooth) : Type 0 where
+  pub fit : Fit bs r
+  pub line : r .line ≡ h .line
+  pub number : r .number ≡ h .number
+  pub grown : h .clock .0 ≤ r .clock .0
+  pub cap : r .clock .0 ≤ due (h .line .promise) t
+
+-- worked: its clock has grown by 1, no demand has grown, and what waits is as it was, so it fits every log that it fitted
+pub record AfterPlay (h r : HeldBooth) : Type 0 where
+  pub steady : Steady r
+  pub fit : (bs : List ℕ) → Fit bs h → Fit bs r
+  pub line : r .line ≡ h .line
+  pub number : r .number ≡ h .number
+  pub at : r .at ≡ h .at
+  pub tick : r .tick ≡ h .tick
+  pub point : r .point ≡ h .point
+  pub clock : r .clock .0 ≡ h .clock .0 + 1
+  pub falls : (k : ℕ) → getD (r .demand) k 0 ≤ getD (h .demand) k 0
+
 -- the wall tick before which a settled booth cannot work: its next entry's, or the one from which its own clock's tick may be played
 unfoldable pub wakesAt : HeldBooth → ℕ
 wakesAt h =

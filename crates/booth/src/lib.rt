@@ -7,7 +7,7 @@ ghost use Rattle.rules.specs.ArrivalLog.{entryAt};
 ghost use Rattle.rules.specs.Due as page;
 ghost use Rattle.rules.specs.Moves as moves;
 ghost use Rattle.table.specs.Fit.{Sounds};
-ghost use Rattle.booth.specs.Shown.{firstOf, shown, settledAnswer, takesNext, takenNext, wakesAt, Log, Place, Found, Looked, Steady, Fit, demanding, clockAt, lengthened};
+ghost use Rattle.booth.specs.Shown.{firstOf, shown, settledAnswer, takesNext, takenNext, wakesAt, Log, Place, Found, Looked, Steady, Fit, AfterSettle, AfterPlay, demanding, clockAt, lengthened};
 use rules::Line;
 use rules::OwnTick;
 use rules::WallTick;
@@ -149,11 +149,11 @@ impl Booth {
         ensures state { λ r. ⌜ shown (now (log .entry)) r (now (row .exit)) ≡ takenNext (shown (now (log .entry)) self (now (row .entry))) ⌝ }
         ensures row { λ r. ⌜ now (row .exit) ≡ lengthened (now (row .entry)) (self .clock .0) (replicate (self .point .0 - self .clock .0) 255) ⌝ }
     {
-        let to = self.point;
-        self = self.pass(row, to);
         let at = self.at;
         let k = rules::wide(log[at + 6]) as usize;
         let d = rules::number16(log, at + 7);
+        let to = self.point;
+        self = self.pass(row, to);
         self = self.add(k, d);
         self = self.look(log, at + 9);
         self
@@ -162,7 +162,7 @@ impl Booth {
     // Settle at t.
     pub fn settle(mut self, log: &[u8], row: &mut [u8], t: WallTick) -> Self
         requires { ⌜ Log (now log) × Fit (now log) self × (t .0 < 1000001) × (t .0 ≤ length (now row)) × (self .clock .0 ≤ page.due (self .line .promise) (t .0)) ⌝ }
-        ensures fit { λ r. ⌜ Fit (now (log .entry)) r × (r .line ≡ self .line) × (r .number ≡ self .number) × (self .clock .0 ≤ r .clock .0) ⌝ }
+        ensures fit { λ r. ⌜ AfterSettle (now (log .entry)) (t .0) self r ⌝ }
         ensures state { λ r. ⌜ shown (now (log .entry)) r (now (row .exit)) ≡ moves.settle (t .0) (shown (now (log .entry)) self (now (row .entry))) ⌝ }
         ensures row { λ r. ⌜ drop (r .clock .0) (now (row .exit)) ≡ drop (r .clock .0) (now (row .entry)) ⌝ }
     {
@@ -200,7 +200,7 @@ impl Booth {
     // The booth works: its first task with demand loses 1, its number goes into the row at u, u grows by 1.
     pub fn play(mut self, row: &mut [u8], k: usize) -> Self
         requires { ⌜ Steady self × (k < 8) × (k ≡ self .first) × (self .clock .0 < length (now row)) × (length (now row) < 1000001) ⌝ }
-        ensures fit { λ r. ⌜ Steady r × (r .line ≡ self .line) × (r .number ≡ self .number) × (r .at ≡ self .at) × (r .tick ≡ self .tick) × (r .point ≡ self .point) × (r .clock .0 ≡ self .clock .0 + 1) × ((j : ℕ) → getD (r .demand) j 0 ≤ getD (self .demand) j 0) ⌝ }
+        ensures fit { λ r. ⌜ AfterPlay self r ⌝ }
         ensures state { λ r. ⌜ ((bs : List ℕ) → shown bs r (now (row .exit)) ≡ moves.work (shown bs self (now (row .entry)))) ⌝ }
         ensures row { λ r. ⌜ drop (r .clock .0) (now (row .exit)) ≡ drop (r .clock .0) (now (row .entry)) ⌝ }
     {

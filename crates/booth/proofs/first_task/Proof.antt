@@ -1,45 +1,48 @@
+-- `booth::first_task` meets its contract: the tasks passed have no demand. Assumes nothing.
+use mathlib.Core.Path.{_≡_, sym, _∙_}
+use Prim.Native.Nat.{ℕ, _+_, _-_, _≤_, _<_}
+use native.Mathlib.Omega.{arith}
+use borrow.Author.Count.{below-none, below-more}
+use borrow.Author.Needs.{needs}
+use lib.ListN.{length, getD}
+use Rattle.booth.proofs.Demand.{is-first, first-is, no-first}
 use Rattle.booth.proofs.first_task.Statement.{statement}
 use Rattle.booth.proofs.first_task.Tie as tie
 use Rattle.booth.proofs.first_task.Reads as reads
 use Rattle.booth.proofs.first_task.Lts as lts
 
 abbrev Inv-loop : tie.InvT-loop
-Inv-loop demand k₀ k = ?
+Inv-loop demand k₀ k = (k ≤ 8) × ((j : ℕ) → j < k → getD demand j 0 ≡ 0)
 
 abbrev μ-loop : tie.MeasureT-loop
-μ-loop demand k₀ k = ?
+μ-loop demand k₀ k = 8 - k
 
--- src/lib.rt:72:5
 loop-holds : tie.Need-loop-holds Inv-loop μ-loop
-loop-holds c = ?
+loop-holds c = (omega arith, λ j h. absurd (omega arith))
 
--- src/lib.rt:73:16
 mul-if1 : tie.Need-mul-if1 Inv-loop μ-loop
-mul-if1 c = ?
+mul-if1 c = search needs
 
--- src/lib.rt:73:16
 array-read-if1 : tie.Need-array-read-if1 Inv-loop μ-loop
-array-read-if1 c = ?
+array-read-if1 c = search needs
 
--- src/lib.rt:74:13
 returns : tie.Need-returns Inv-loop μ-loop
-returns c = ?
+returns c = sym (first-is (c .before .before .before .args .t1) (c .before .before .loop .k) (is-first (c .before .before .before .args .t1) (c .before .before .loop .k) (c .if1 .taken) (c .before .before .loop .inv .1)))
 
--- src/lib.rt:76:9
 add-k : tie.Need-add-k Inv-loop μ-loop
-add-k c = ?
+add-k c = search needs
 
--- src/lib.rt:72:5
 loop-less : tie.Need-loop-less Inv-loop μ-loop
-loop-less c = ?
+loop-less c = search needs
 
--- src/lib.rt:72:5
 loop-again : tie.Need-loop-again Inv-loop μ-loop
-loop-again c = ?
+loop-again c = (search needs, below-more _ _ (c .before .before .loop .inv .1) (omega (arith, c .if1 .left)))
 
--- src/lib.rt:68:1
 returns-2 : tie.Need-returns-2 Inv-loop μ-loop
-returns-2 c = ?
+returns-2 c =
+    let n = c .before .loop in
+    let eight : n .k ≡ 8 = omega arith in
+    eight ∙ sym (no-first (c .before .before .args .t1) (λ j h. n .inv .1 j (omega arith)))
 
 pub first-task-spec : {M : Type 1} → statement M
 first-task-spec =

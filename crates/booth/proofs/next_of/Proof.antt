@@ -1,45 +1,56 @@
+-- `booth::next_of` meets its contract: every entry passed is another booth's. Assumes nothing.
+use mathlib.Core.Path.{_≡_, refl, sym, _∙_}
+use Prim.Native.Nat.{_+_, _-_, _≤_, _<_}
+use native.Mathlib.Omega.{arith}
+use borrow.Author.Needs.{needs}
+use lib.ListN.{length}
+use Rattle.rules.specs.ArrivalLog.{entryAt}
+use Rattle.booth.specs.Shown.{waitingAt, Place, Found}
+use Rattle.booth.proofs.Waiting.{whole-entry, waiting-other}
 use Rattle.booth.proofs.next_of.Statement.{statement}
 use Rattle.booth.proofs.next_of.Tie as tie
 use Rattle.booth.proofs.next_of.Reads as reads
 use Rattle.booth.proofs.next_of.Lts as lts
 
 abbrev Inv-loop : tie.InvT-loop
-Inv-loop log number from at₀ at = ?
+Inv-loop log number from at₀ at = Place log at × (from ≤ at) × (waitingAt log number at ≡ waitingAt log number from)
 
 abbrev μ-loop : tie.MeasureT-loop
-μ-loop log number from at₀ at = ?
+μ-loop log number from at₀ at = length log - at
 
--- src/lib.rt:47:5
 loop-holds : tie.Need-loop-holds Inv-loop μ-loop
-loop-holds c = ?
+loop-holds c = (c .pre, omega arith, refl)
 
--- src/lib.rt:48:16
 add-if1 : tie.Need-add-if1 Inv-loop μ-loop
-add-if1 c = ?
+add-if1 c = search needs
 
--- src/lib.rt:48:12
 shared-slice-read-if1 : tie.Need-shared-slice-read-if1 Inv-loop μ-loop
-shared-slice-read-if1 c = ?
+shared-slice-read-if1 c = omega (arith, (whole-entry (c .before .before .before .args .log .now) (c .before .before .loop .at) (c .before .before .loop .inv .0) (c .before .loop-test .taken)) .0)
 
--- src/lib.rt:49:13
 returns : tie.Need-returns Inv-loop μ-loop
-returns c = ?
+unfolding entryAt
+returns c = record { place = c .before .before .before .loop .inv .0; later = c .before .before .before .loop .inv .1; same = c .before .before .before .loop .inv .2; here = λ h. c .if1 .taken }
 
--- src/lib.rt:51:9
 add-at : tie.Need-add-at Inv-loop μ-loop
-add-at c = ?
+add-at c = omega (arith, (whole-entry (c .before .before .before .before .args .log .now) (c .before .before .before .loop .at) (c .before .before .before .loop .inv .0) (c .before .before .loop-test .taken)) .0)
 
--- src/lib.rt:47:5
 loop-less : tie.Need-loop-less Inv-loop μ-loop
-loop-less c = ?
+loop-less c = search needs
 
--- src/lib.rt:47:5
 loop-again : tie.Need-loop-again Inv-loop μ-loop
-loop-again c = ?
+unfolding entryAt
+loop-again c =
+    let bs = c .before .before .before .before .args .log .now in
+    let at = c .before .before .before .loop .at in
+    let inv = c .before .before .before .loop .inv in
+    let inside = c .before .before .loop-test .taken in (
+      (whole-entry bs at (inv .0) inside) .1,
+      omega arith,
+      sym (waiting-other bs (c .before .before .before .before .args .number) at (inv .0) inside (c .if1 .left)) ∙ inv .2,
+    )
 
--- src/lib.rt:42:1
 returns-2 : tie.Need-returns-2 Inv-loop μ-loop
-returns-2 c = ?
+returns-2 c = record { place = c .before .loop .inv .0; later = c .before .loop .inv .1; same = c .before .loop .inv .2; here = λ h. absurd (omega arith) }
 
 pub next-of-spec : {M : Type 1} → statement M
 next-of-spec =

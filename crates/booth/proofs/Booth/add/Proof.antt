@@ -1,36 +1,49 @@
+-- `booth::Booth::add` meets its contract. Assumes nothing.
+use mathlib.Core.Path.{_≡_, refl, sym, ap, _∙_}
+use mathlib.Core.Logic.{⊎-elim}
+use Prim.Native.Nat.{_+_, _-_, _≤_, _<_}
+use native.Mathlib.Omega.{arith}
+use lib.ListN.{length, getD, set}
+use Rattle.booth.specs.Shown.{demanding, firstOf}
+use Rattle.booth.proofs.Demand.{demand-or-none, first-earlier, first-same}
 use borrow.Author.Needs.{needs}
 use Rattle.booth.proofs.Booth.add.Statement.{statement}
 use Rattle.booth.proofs.Booth.add.Tie as tie
 use Rattle.booth.proofs.Booth.add.Reads as reads
 use Rattle.booth.proofs.Booth.add.Lts as lts
 
--- src/lib.rt:108:26
 mul-self : tie.Need-mul-self
 mul-self c = search needs
 
--- src/lib.rt:108:26
 element-copy-out-self : tie.Need-element-copy-out-self
 element-copy-out-self c = search needs
 
--- src/lib.rt:108:26
 add-self : tie.Need-add-self
 add-self c = search needs
 
--- src/lib.rt:108:9
 mul-self-2 : tie.Need-mul-self-2
 mul-self-2 c = search needs
 
--- src/lib.rt:108:9
 element-write-self : tie.Need-element-write-self
 element-write-self c = search needs
 
--- src/lib.rt:104:5
 returns : tie.Need-returns
-returns c = ?
+unfolding demanding
+returns c =
+    let ds = c .before .before .args .t1 .demand in
+    let k = c .before .before .args .k in
+    let pre = c .before .before .pre in
+    rw (first-earlier ds k (getD ds k 0 + c .before .before .args .d) (omega arith) (omega arith) (omega arith))
 
--- src/lib.rt:104:5
 returns-2 : tie.Need-returns-2
-returns-2 c = ?
+unfolding demanding
+returns-2 c =
+    let ds = c .before .before .args .t1 .demand in
+    let k = c .before .before .args .k in
+    let x = getD ds k 0 + c .before .before .args .d in
+    let same : firstOf (set ds k x) ≡ firstOf ds =
+    ⊎-elim (λ w. absurd (omega (arith, w .1))) (λ w. first-same ds (firstOf ds) k x (w .1) (omega arith) (omega arith) (omega arith)) (demand-or-none ds) in
+    rw (same, ← c .before .before .pre .4)
 
 pub add-spec : {M : Type 1} → statement M
 add-spec =
