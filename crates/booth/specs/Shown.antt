@@ -57,19 +57,19 @@ takesNext t h = leb (h .tick .0) t && (eqb (h .first) 8 || leb (h .point .0) (h 
 
 -- ---- what holds of the log, of a place in it, and of a held booth
 
--- 9 bytes and then whole entries, at most 4,096, ticks below 1,000,000 that never fall, each with some demand
-pub record Log (bs : List ℕ) : Type 0 where
-  pub header : 9 ≤ length bs
-  pub short : length bs ≤ 36873
-  pub whole : (length bs - 9) % 9 ≡ 0
-  pub ticks : (at : ℕ) → at + 9 ≤ length bs → (length bs - at) % 9 ≡ 0 → (entryAt bs at) .tick < 1000000
-  pub demands : (at : ℕ) → at + 9 ≤ length bs → (length bs - at) % 9 ≡ 0 → 0 < (entryAt bs at) .demand
-  pub sorted : Sorted (entriesFrom ((length bs - 9) / 9) bs 9)
-
+-- where an entry starts, or the log ends
 pub record Place (bs : List ℕ) (at : ℕ) : Type 0 where
   pub from : 9 ≤ at
   pub inside : at ≤ length bs
   pub whole : (length bs - at) % 9 ≡ 0
+
+-- 9 bytes and then whole entries, at most 4,096, each with some demand, whose ticks never fall
+pub record Log (bs : List ℕ) : Type 0 where
+  pub header : 9 ≤ length bs
+  pub short : length bs ≤ 36873
+  pub whole : (length bs - 9) % 9 ≡ 0
+  pub demands : (at : ℕ) → Place bs at → at < length bs → 0 < (entryAt bs at) .demand
+  pub sorted : Sorted (entriesFrom ((length bs - 9) / 9) bs 9)
 
 -- the booth's entries from one place on are those from another, where the first of them stands
 pub record Found (bs : List ℕ) (number from at : ℕ) : Type 0 where

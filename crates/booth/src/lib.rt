@@ -6,10 +6,13 @@ ghost use lib.ListN.{length, getD, take, drop, replicate, set};
 ghost use Rattle.rules.specs.ArrivalLog.{entryAt};
 ghost use Rattle.rules.specs.Due as page;
 ghost use Rattle.rules.specs.Moves as moves;
-ghost use Rattle.table.specs.Fit.{Sounds};
-ghost use Rattle.booth.specs.Shown.{firstOf, shown, settledAnswer, takesNext, takenNext, wakesAt, Log, Place, Found, Looked, Steady, Fit, AfterSettle, AfterPlay, demanding, clockAt, lengthened};
+ghost use Rattle.rules.specs.Session.{freshBooth};
+ghost use Rattle.rules.specs.Values.{lineHeld};
+ghost use Rattle.table.specs.Fit.{Sounds, FitLine};
+ghost use Rattle.booth.specs.Shown.{waitingAt, firstOf, shown, settledAnswer, takesNext, takenNext, wakesAt, Log, Place, Found, Looked, Steady, Fit, AfterSettle, AfterPlay, demanding, clockAt, lengthened};
 use rules::Line;
 use rules::OwnTick;
+use rules::Promise;
 use rules::WallTick;
 
 // In a row: no task ran. In the wall record: no booth worked.
@@ -79,6 +82,50 @@ fn first_task(demand: [u32; 8]) -> usize
 }
 
 impl Booth {
+    // Stands in an array of booths where the table has none.
+    pub fn absent() -> Self {
+        let promise = Promise {
+            period: 0,
+            allowance: 0,
+        };
+        let line = Line {
+            promise,
+            tasks: 0,
+            longest: [0; 8],
+            start: 0,
+        };
+        Booth {
+            number: 0,
+            line,
+            clock: OwnTick(0),
+            at: 0,
+            tick: WallTick(NEVER),
+            point: OwnTick(0),
+            first: 8,
+            demand: [0; 8],
+        }
+    }
+
+    // A booth before wall tick 0: own clock 0, no demand, nothing added, an empty row.
+    pub fn open(number: u8, line: Line, log: &[u8]) -> Self
+        requires { ⌜ Log (now log) × FitLine line ⌝ }
+        requires { ⌜ ((at : ℕ) → Place (now log) at → at < length (now log) → (entryAt (now log) at) .booth ≡ number → (entryAt (now log) at) .task < line .tasks) ⌝ }
+        ensures fit { λ r. ⌜ Fit (now (log .entry)) r × (r .number ≡ number) × (r .line ≡ line) ⌝ }
+        ensures state { λ r. ⌜ ((row : List ℕ) → shown (now (log .entry)) r row ≡ freshBooth (lineHeld line) (waitingAt (now (log .entry)) number 9)) ⌝ }
+    {
+        let booth = Booth {
+            number,
+            line,
+            clock: OwnTick(0),
+            at: 9,
+            tick: WallTick(NEVER),
+            point: OwnTick(0),
+            first: 8,
+            demand: [0; 8],
+        };
+        booth.look(log, 9)
+    }
+
     // The booth with its first waiting entry at `from` or behind it.
     fn look(mut self, log: &[u8], from: usize) -> Self
         requires { ⌜ Log (now log) × Place (now log) from × Sounds (self .line .promise) ⌝ }

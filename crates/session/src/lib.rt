@@ -8,7 +8,6 @@ ghost use Rattle.rules.specs.Session as page;
 ghost use Rattle.rules.specs.Values.{linesHeld};
 ghost use Rattle.session.specs.Answer as said;
 ghost use Rattle.session.specs.Running.{logOf, Opening, Opened, Ready, Ran, Ended, Closed, Clocks, Playable};
-
 use booth::Booth;
 use booth::Chosen;
 use rules::Refusal;

@@ -55,7 +55,7 @@ add-requires c κs =
     let d = c .before .before .before .before .before .number16 .ensures in
     let ds : c .before .before .pass .result .demand ≡ h .demand = ap (λ (x : Booth). x .demand) moved in (
       omega (arith, k, own-task bs h fit more, fit .steady .tasks),
-      omega (arith, d .0, start .pre .0 .0 .demands (h .at) ((whole-entry bs (h .at) (fit .waits .place) more) .0) (fit .waits .place .whole)),
+      omega (arith, d .0, start .pre .0 .0 .demands (h .at) (fit .waits .place) more),
       ap length ds ∙ fit .steady .eight,
       rw ds (omega (arith, d .1, fit .room (c .before .before .before .before .before .before .wide .result))),
       ap (λ (x : Booth). x .first) moved ∙ fit .steady .first ∙ ap firstOf (sym ds),

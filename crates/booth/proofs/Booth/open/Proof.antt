@@ -1,0 +1,20 @@
+-- `Booth::open` meets its contract. Assumes nothing.
+use native.Mathlib.Omega.{arith}
+use borrow.Author.Needs.{needs}
+use Rattle.booth.proofs.Opening.{open-fit, open-fresh}
+use Rattle.booth.proofs.Booth.open.Statement.{statement}
+use Rattle.booth.proofs.Booth.open.Tie as tie
+
+look-requires : tie.Need-look-requires
+look-requires c κs = search needs
+
+returns : tie.Need-returns
+returns c =
+    let start = c .before .before in
+    let bs = start .args .log .now in (
+      open-fit bs (start .args .number) (start .args .line) (start .pre .0 .0) (start .pre .0 .1) (start .pre .1) (c .look .result) (c .look .ensures),
+      open-fresh bs (start .args .number) (start .args .line) (start .pre .0 .0) (start .pre .0 .1) (start .pre .1) (c .look .result) (c .look .ensures),
+    )
+
+pub open-spec : {M : Type 1} → statement M
+open-spec = tie.close (tie.spec look-requires returns)
