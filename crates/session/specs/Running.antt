@@ -89,7 +89,7 @@ pub record Opened (table : Table) (bs : List ℕ) (hs : List HeldBooth) : Type 0
 
 pub record Ready (n H : ℕ) (start : List HeldBooth) (bs wall own : List ℕ) : Type 0 where
   pub set : Set (linesOf n start) n H bs own
-  pub wall : H ≤ length wall
+  pub wall-room : H ≤ length wall
   pub running : Running (linesOf n start) H bs wall own 0 0 start (replicate 8 0) (replicate 8 0) 0 wall own
 
 -- all H wall ticks are played

@@ -1,0 +1,3 @@
+pub mod Engine
+pub mod AcceptedLog
+pub mod ByCases
