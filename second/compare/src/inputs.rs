@@ -2,11 +2,15 @@
 
 mod edge;
 mod good;
+mod largest;
 mod logs;
+mod sessions;
 mod tables;
 
 pub use good::{audition, every_tick, full_house, full_log};
+pub use largest::largest_sessions;
 pub use logs::kinds_of_log;
+pub use sessions::{damaged_files, lent_record, long_sessions, Session};
 pub use tables::kinds_of_table;
 
 use second::random::Random;
@@ -34,7 +38,7 @@ impl<Input> Kind<Input> {
 }
 
 /// Random numbers for `count` inputs; each kind has a million seeds of its own.
-fn randoms(first_seed: u64, kind: u64, count: u64) -> impl Iterator<Item = Random> {
+pub fn randoms(first_seed: u64, kind: u64, count: u64) -> impl Iterator<Item = Random> {
     let first = first_seed.wrapping_add(kind * 1_000_000);
     (0..count).map(move |number| Random::new(first.wrapping_add(number)))
 }

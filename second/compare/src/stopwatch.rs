@@ -20,7 +20,7 @@ impl Times {
     pub fn print(&self, work: &str) {
         let (library, rust) = (self.library, self.rust);
         let ratio = self.ratio();
-        println!("{work:<52} library {library:>10.2?}  rust {rust:>10.2?}  ratio {ratio:.2}");
+        println!("{work:<56} library {library:>10.2?}  rust {rust:>10.2?}  ratio {ratio:.2}");
     }
 }
 

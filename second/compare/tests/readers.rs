@@ -10,7 +10,7 @@ use second::random::first_seed;
 
 fn compare_table(kind: &str, table: &[u8]) -> Verdict {
     let expected = judge::table_verdict(table);
-    for reader in &READERS {
+    for reader in READERS {
         let said = (reader.table_verdict)(table);
         assert_eq!(said, expected, "{}, {kind}: {table:02X?}", reader.name);
     }
@@ -19,7 +19,7 @@ fn compare_table(kind: &str, table: &[u8]) -> Verdict {
 
 fn compare_files(kind: &str, Files { table, log }: &Files) -> Verdict {
     let expected = judge::files_verdict(table, log);
-    for reader in &READERS {
+    for reader in READERS {
         let said = (reader.files_verdict)(table, log);
         let name = reader.name;
         assert_eq!(said, expected, "{name}, {kind}: {table:02X?} {log:02X?}");

@@ -18,7 +18,7 @@ fn refused(refused: u32, number: u32, place: u64) -> Verdict {
 /// The page, the second program and both readers agree.
 fn all_say(expected: Verdict, Files { table, log }: &Files) {
     assert_eq!(judge::files_verdict(table, log), expected);
-    for reader in &READERS {
+    for reader in READERS {
         let said = (reader.files_verdict)(table, log);
         assert_eq!(said, expected, "{}", reader.name);
     }
@@ -64,7 +64,7 @@ fn both_files_bad() {
 fn tables_alone() {
     for table in [audition().table, table_bytes(&full_house(65_535)), vec![]] {
         let expected = judge::table_verdict(&table);
-        for reader in &READERS {
+        for reader in READERS {
             assert_eq!((reader.table_verdict)(&table), expected, "{}", reader.name);
         }
     }

@@ -5,8 +5,8 @@ use super::table::Table;
 
 const FIRST_ENTRY: usize = 9;
 const ENTRY_BYTES: usize = 9;
-const MOST_ENTRIES: usize = 4_096;
-const MOST_WALL_TICKS: u32 = 1_000_000;
+pub const MOST_ENTRIES: usize = 4_096;
+pub const MOST_WALL_TICKS: u32 = 1_000_000;
 
 /// An accepted log; the entries stay the file's bytes.
 pub struct Log<'a> {
