@@ -112,7 +112,8 @@ fn grown_too_long(file: File, bytes: &[u8], random: &mut Random) -> Vec<u8> {
     grown
 }
 
-fn head_that_lies(file: File, bytes: &[u8], random: &mut Random) -> Vec<u8> {
+/// The file with an N that is not the number of bytes that follow.
+pub fn head_that_lies(file: File, bytes: &[u8], random: &mut Random) -> Vec<u8> {
     let head = 1 + file.n_bytes();
     let n = (bytes.len() - head) as u64;
     let lie = match random.between(0, 4) {
@@ -127,13 +128,14 @@ fn head_that_lies(file: File, bytes: &[u8], random: &mut Random) -> Vec<u8> {
     lying
 }
 
-fn random_bytes(most: u64, random: &mut Random) -> Vec<u8> {
+/// At most `most` bytes of any value.
+pub fn random_bytes(most: u64, random: &mut Random) -> Vec<u8> {
     let length = random.between(0, most);
     (0..length).map(|_| random.byte()).collect()
 }
 
 /// The same bytes with an N that tells their true number.
-fn mended(file: File, mut bytes: Vec<u8>) -> Vec<u8> {
+pub fn mended(file: File, mut bytes: Vec<u8>) -> Vec<u8> {
     let head = 1 + file.n_bytes();
     if bytes.len() >= head {
         let n = number_bytes((bytes.len() - head) as u64, file.n_bytes());

@@ -63,6 +63,26 @@ pub const NEVER_SILENT: Shape = Shape {
     bursts: true,
 };
 
+/// As long as a session can be, with booths that sing most of the time.
+pub const WHOLE_EVENING: Shape = Shape {
+    longest_period: table::LONGEST_PERIOD,
+    longest_job: 65_535,
+    most_wall_ticks: arrivals::MOST_WALL_TICKS,
+    most_entries: arrivals::MOST_ENTRIES as u64,
+    at_the_edge: true,
+    bursts: true,
+};
+
+/// As long as a session can be, with booths that are silent most of the time.
+pub const QUIET_EVENING: Shape = Shape {
+    longest_period: 1_000,
+    longest_job: 40,
+    most_wall_ticks: arrivals::MOST_WALL_TICKS,
+    most_entries: arrivals::MOST_ENTRIES as u64,
+    at_the_edge: false,
+    bursts: false,
+};
+
 /// An admitted table and a log that fits it, of a random shape.
 pub fn random_session(random: &mut Random) -> (Table, Log) {
     let shape = match random.between(0, 15) {

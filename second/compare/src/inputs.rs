@@ -1,0 +1,44 @@
+//! Files to compare on: good ones, and what accidents leave of them.
+
+mod edge;
+mod good;
+mod largest;
+mod logs;
+mod sessions;
+mod tables;
+
+pub use good::{audition, every_tick, full_house, full_log};
+pub use largest::largest_sessions;
+pub use logs::kinds_of_log;
+pub use sessions::{damaged_files, lent_record, long_sessions, Session};
+pub use tables::kinds_of_table;
+
+use second::random::Random;
+
+/// A booth table and an arrival log.
+#[derive(Clone)]
+pub struct Files {
+    pub table: Vec<u8>,
+    pub log: Vec<u8>,
+}
+
+/// Inputs of one kind, made one by one as they are asked for.
+pub struct Kind<Input> {
+    pub name: &'static str,
+    pub inputs: Box<dyn Iterator<Item = Input>>,
+}
+
+impl<Input> Kind<Input> {
+    fn new(name: &'static str, inputs: impl Iterator<Item = Input> + 'static) -> Kind<Input> {
+        Kind {
+            name,
+            inputs: Box::new(inputs),
+        }
+    }
+}
+
+/// Random numbers for `count` inputs; each kind has a million seeds of its own.
+pub fn randoms(first_seed: u64, kind: u64, count: u64) -> impl Iterator<Item = Random> {
+    let first = first_seed.wrapping_add(kind * 1_000_000);
+    (0..count).map(move |number| Random::new(first.wrapping_add(number)))
+}

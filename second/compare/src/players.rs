@@ -1,0 +1,53 @@
+//! Who is held against the second program.
+
+use crate::answers::{PanelRow, SessionAnswer, Verdict};
+use crate::{boxed, fast};
+
+pub struct Reader {
+    pub name: &'static str,
+    pub table_verdict: fn(&[u8]) -> Verdict,
+    pub files_verdict: fn(&[u8], &[u8]) -> Verdict,
+}
+
+pub const READERS: &[Reader] = &[
+    Reader {
+        name: "the proved library",
+        table_verdict: boxed::table_verdict,
+        files_verdict: boxed::files_verdict,
+    },
+    Reader {
+        name: "the fast program",
+        table_verdict: fast::table_verdict,
+        files_verdict: fast::files_verdict,
+    },
+];
+
+/// Table, log, the lent wall record and own record.
+pub type AskSession = fn(&[u8], &[u8], &mut [u8], &mut [u8]) -> SessionAnswer;
+/// Table, log, booth, n and the lent buffer.
+pub type AskSolo = fn(&[u8], &[u8], usize, usize, &mut [u8]) -> Verdict;
+/// Table, wall record, booth and t.
+pub type AskPanel = fn(&[u8], &[u8], usize, usize) -> PanelRow;
+
+pub struct Player {
+    pub name: &'static str,
+    pub session: AskSession,
+    pub solo_part: AskSolo,
+    pub panel: AskPanel,
+}
+
+pub const PLAYERS: &[Player] = &[
+    #[cfg(feature = "whole")]
+    Player {
+        name: "the proved library",
+        session: boxed::session,
+        solo_part: boxed::solo_part,
+        panel: boxed::panel,
+    },
+    Player {
+        name: "the fast program",
+        session: fast::session,
+        solo_part: fast::solo_part,
+        panel: fast::panel,
+    },
+];

@@ -1,0 +1,52 @@
+//! How many inputs of each kind were compared, and how often each number was
+//! the answer.
+
+use std::collections::BTreeMap;
+
+use crate::answers::{Verdict, ARRIVAL_LOG, BOOTH_TABLE, NOTHING};
+
+#[derive(Default)]
+pub struct Tally {
+    kinds: BTreeMap<&'static str, u64>,
+    answers: BTreeMap<(u32, u32), u64>,
+}
+
+impl Tally {
+    pub fn add(&mut self, kind: &'static str, answer: Verdict) {
+        *self.kinds.entry(kind).or_default() += 1;
+        let said = (answer.refused, answer.number);
+        *self.answers.entry(said).or_default() += 1;
+    }
+
+    pub fn inputs(&self) -> u64 {
+        self.kinds.values().sum()
+    }
+
+    pub fn of_kind(&self, kind: &'static str) -> u64 {
+        self.kinds.get(kind).copied().unwrap_or(0)
+    }
+
+    /// How often this number was said about this file or call.
+    pub fn times(&self, refused: u32, number: u32) -> u64 {
+        self.answers.get(&(refused, number)).copied().unwrap_or(0)
+    }
+
+    pub fn print(&self, title: &str) {
+        println!("{title}: {} inputs compared", self.inputs());
+        for (kind, inputs) in &self.kinds {
+            println!("  {inputs:8} {kind}");
+        }
+        for (&(refused, number), times) in &self.answers {
+            println!("  {times:8} times {} {number}", name(refused));
+        }
+    }
+}
+
+fn name(refused: u32) -> &'static str {
+    match refused {
+        NOTHING => "accepted",
+        BOOTH_TABLE => "table",
+        ARRIVAL_LOG => "log",
+        _ => "call",
+    }
+}
