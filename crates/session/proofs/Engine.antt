@@ -39,7 +39,7 @@ use Rattle.booth.specs.Shown.{AfterSettle, AfterPlay, entriesFrom, waitingAt, f
 use Rattle.booth.proofs.Rows.{agree-later}
 use Rattle.booth.proofs.Demand.{First, first-here, first-taken, eight-none, none-taken, demand-or-none}
 use Rattle.booth.proofs.Waiting.{whole-entry, waiting-sorted, waiting-end, waiting-own}
-use Rattle.session.specs.Running.{entriesOf, nowhere, linesOf, Same, Alike, Set, Running, Ending}
+use Rattle.session.specs.Running.{entriesOf, nowhere, linesOf, Same, Alike, Set, Running, Ending, Ended}
 
 -- ---- what a held booth shows
 
@@ -445,7 +445,7 @@ module _ (n H : ℕ) (start : List HeldBooth) (bs wall₀ own₀ : List ℕ) (t 
     rest' : drop (h .clock .0) part ≡ drop (h .clock .0) (take H (drop (i * H) own))
     rest' = rest ∙ ap (λ m. drop (h .clock .0) (take m (drop (i * H) own))) q
 
-    long' : length part ≡ H
+    pub long' : length part ≡ H
     long' = long ∙ ap (λ m. length (take m (drop (i * H) own))) q ∙ part-length e
 
     number : h .number ≡ i
@@ -533,3 +533,56 @@ chosen-first bs t h part k s e = go (demand-or-none (h .demand))
         let f = first-taken (h .line .tasks) (h .demand) (s .rest) (firstOf (h .demand)) (q .1) in
         let is : k ≡ firstOf (h .demand) = sym task ∙ (first-here (take (h .line .tasks) (h .demand)) (firstOf (h .demand)) f) .1 in
         (omega (arith, (q .1) .there, s .eight), is ∙ sym (s .first))
+
+-- ---- what the last loop keeps
+
+module _ (n H : ℕ) (played : List HeldBooth) (bs own₁ : List ℕ) (i : ℕ) (hs : List HeldBooth) (own : List ℕ) (e : Ended n H played bs own₁)
+    (ending : Ending (e .lines) H bs (e .wall₀) (e .own₀) i hs own) (less : i < n) (same : length own ≡ length own₁) where
+  here : i < length (e .lines)
+  here = omega (arith, e .set .count)
+
+  own-room : n * H ≤ length own
+  own-room = omega (arith, e .set .room, e .same-length)
+
+  lines-room : length (e .lines) * H ≤ length (e .own₀)
+  lines-room = omega (arith, ap (λ m. m * H) (e .set .count), e .set .room)
+
+  lines-few : length (e .lines) ≤ 8
+  lines-few = omega (arith, e .set .count, e .set .few)
+
+  last-part : length (take H (drop (i * H) own)) ≡ H
+  last-part = length-take-le H (drop (i * H) own) (omega (arith, length-drop (i * H) own, row-inside i n H less, own-room))
+
+  pub last-asks : (w : ℕ) → w ≡ H
+      → shows.Log bs × Fit bs (getD hs i nowhere) × (H < 1000001) × (H ≤ length (take w (drop (i * H) own))) × ((getD hs i nowhere) .clock .0 ≤ due ((getD hs i nowhere) .line .promise) H)
+  unfolding lineHeld
+  last-asks w q =
+      let alike = ending .alike .same i here in
+      let cap = (ending .closing .left i (omega arith) here) .order .cap in
+      let line : (getD (ending .booths) i nobooth) .line .promise ≡ (getD hs i nowhere) .line .promise = ap (λ l. l .promise) (alike .line) in (
+        e .set .log,
+        ending .alike .fit i here,
+        omega (arith, e .set .ticks),
+        omega (arith, ap (λ m. length (take m (drop (i * H) own))) q ∙ last-part),
+        subst (λ p. (getD hs i nowhere) .clock .0 ≤ due p H) line (omega (arith, alike .clock)),
+      )
+
+  pub last-step : (w : ℕ) → w ≡ H → (h : HeldBooth) (part : List ℕ) → AfterSettle bs H (getD hs i nowhere) h
+      → shown bs h part ≡ settle H (shown bs (getD hs i nowhere) (take w (drop (i * H) own))) → drop (h .clock .0) part ≡ drop (h .clock .0) (take w (drop (i * H) own))
+      → length part ≡ length (take w (drop (i * H) own))
+      → Ending (e .lines) H bs (e .wall₀) (e .own₀) (i + 1) (set hs i h) (take (i * H) own ++ (part ++ drop w (drop (i * H) own)))
+  last-step w q h part after state rest long =
+      let s = (ending .alike .fit i here) .steady .sound in
+      let short : h .clock .0 ≤ H =
+      omega (arith, after .cap, due-at-most ((getD hs i nowhere) .line .promise) (record { period = s .period; allowance = s .allowance; within = s .within }) H) in
+      subst (λ m. Ending (e .lines) H bs (e .wall₀) (e .own₀) (i + 1) (set hs i h) (take (i * H) own ++ (part ++ drop m (drop (i * H) own)))) (sym q)
+      (subst (λ k. Ending (e .lines) H bs (e .wall₀) (e .own₀) k (set hs i h) (take (i * H) own ++ (part ++ drop H (drop (i * H) own)))) (sym (add-one i))
+      (ends-one (e .lines) H bs (e .wall₀) (e .own₀) (e .set .as-read) lines-few (e .wall-room) lines-room i hs own ending here h part (after .fit)
+      (after .number ∙ ending .alike .number i here) (long ∙ ap (λ m. length (take m (drop (i * H) own))) q ∙ last-part) short
+      (state ∙ ap (λ m. settle H (shown bs (getD hs i nowhere) (take m (drop (i * H) own)))) q) (rest ∙ ap (λ m. drop (h .clock .0) (take m (drop (i * H) own))) q)))
+
+  pub last-length : (w : ℕ) → w ≡ H → (part : List ℕ) → length part ≡ length (take w (drop (i * H) own)) → length (take (i * H) own ++ (part ++ drop w (drop (i * H) own))) ≡ length own₁
+  last-length w q part long =
+      ap (λ m. length (take (i * H) own ++ (part ++ drop m (drop (i * H) own)))) q
+      ∙ length-back own part (i * H) H (omega (arith, row-inside i n H less, own-room)) (long ∙ ap (λ m. length (take m (drop (i * H) own))) q ∙ last-part)
+      ∙ same

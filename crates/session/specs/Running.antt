@@ -109,6 +109,7 @@ pub record Ended (n H : ℕ) (played : List HeldBooth) (bs own : List ℕ) : Typ
   pub wall₀ : List ℕ
   pub own₀ : List ℕ
   pub set : Set lines n H bs own₀
+  pub wall-room : H ≤ length wall₀
   pub same-length : length own ≡ length own₀
   pub ending : Ending lines H bs wall₀ own₀ 0 played own
 

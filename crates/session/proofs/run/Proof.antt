@@ -4,7 +4,8 @@ use Prim.Native.Nat.{ℕ, suc, _+_, _*_, _-_, _≤_, _<_}
 use native.Mathlib.Omega.{arith}
 use borrow.Author.Needs.{needs}
 use lib.ListN.{length, getD, take, drop, set}
-use Rattle.session.proofs.Engine.{Going, row-inside, going-nobody, going-sleeps, settle-asks, clock-short, going-passed, going-plays, worked-fits, chosen-first}
+use Rattle.session.specs.Running.{linesOf, Running}
+use Rattle.session.proofs.Engine.{Going, row-inside, going-nobody, going-sleeps, settle-asks, clock-short, long', going-passed, going-plays, worked-fits, chosen-first}
 use Rattle.session.proofs.run.Statement.{statement}
 use Rattle.session.proofs.run.Tie as tie
 use Rattle.session.proofs.run.Reads as reads
@@ -132,7 +133,7 @@ loop-again-3 c =
     let start = c .before .before .before .before .before .before .before .before .before .before .before .before .before .before .before .before .before .before .before .args in
     let l = c .before .before .before .before .before .before .before .before .before .before .before .before .before .before .before .loop in
     let told = sym (c .before .before .before .before .before .choose .ensures (start .log .now) (c .before .before .before .before .before .before .before .before .settle .last .1 .1 .0)) ∙ c .before .before .before .enum-told .given .1 in
-    ?
+    rw (c .wakes .ensures) (going-passed (start .n) (start .h) (start .start) (start .log .now) (start .wall .now) (start .own .now) (l .t) (l .i) (l .booths) (l .wakes) (l .worked) (l .idle) (l .wall) (l .own) (l .inv) (c .before .before .before .before .before .before .before .before .before .before .before .before .before .if1 .left) (c .before .before .before .before .before .before .before .before .before .before .before .before .before .before .loop-test .taken) (l .i * start .h + start .h - l .i * start .h) (omega arith) (c .before .before .before .before .before .before .before .before .settle .result) (c .before .before .before .before .before .before .before .before .settle .last .1 .1 .0) (c .before .before .before .before .before .before .before .before .settle .ensures .0) (c .before .before .before .before .before .before .before .before .settle .ensures .1 .0) (c .before .before .before .before .before .before .before .before .settle .ensures .1 .1) (c .before .before .before .before .before .before .before .before .settle .kept .1 .1 .0) told)
 
 play-requires : tie.Need-play-requires Inv-loop μ-loop
 play-requires c κs =
@@ -141,10 +142,15 @@ play-requires c κs =
     let told = sym (c .before .before .before .choose .ensures (start .log .now) (c .before .before .before .before .before .before .settle .last .1 .1 .0)) ∙ c .before .k .given .1 in
     let first = chosen-first (start .log .now) (l .t) (c .before .before .before .before .before .before .settle .result) (c .before .before .before .before .before .before .settle .last .1 .1 .0) (c .before .k .given .0 .0) (c .before .before .before .before .before .before .settle .ensures .0 .fit .steady) told in
     let short = clock-short (start .n) (start .h) (start .start) (start .log .now) (start .wall .now) (start .own .now) (l .t) (l .i) (l .booths) (l .wakes) (l .worked) (l .idle) (l .wall) (l .own) (l .inv) (c .before .before .before .before .before .before .before .before .before .before .before .if1 .left) (c .before .before .before .before .before .before .before .before .before .before .before .before .loop-test .taken) (l .i * start .h + start .h - l .i * start .h) (omega arith) (c .before .before .before .before .before .before .settle .result) (c .before .before .before .before .before .before .settle .last .1 .1 .0) (c .before .before .before .before .before .before .settle .ensures .0) (c .before .before .before .before .before .before .settle .ensures .1 .0) (c .before .before .before .before .before .before .settle .ensures .1 .1) (c .before .before .before .before .before .before .settle .kept .1 .1 .0) in
-    (c .before .before .before .before .before .before .settle .ensures .0 .fit .steady, first .0, first .1, ?, ?)
+    let long = long' (start .n) (start .h) (start .start) (start .log .now) (start .wall .now) (start .own .now) (l .t) (l .i) (l .booths) (l .wakes) (l .worked) (l .idle) (l .wall) (l .own) (l .inv) (c .before .before .before .before .before .before .before .before .before .before .before .if1 .left) (c .before .before .before .before .before .before .before .before .before .before .before .before .loop-test .taken) (l .i * start .h + start .h - l .i * start .h) (omega arith) (c .before .before .before .before .before .before .settle .result) (c .before .before .before .before .before .before .settle .last .1 .1 .0) (c .before .before .before .before .before .before .settle .ensures .0) (c .before .before .before .before .before .before .settle .ensures .1 .0) (c .before .before .before .before .before .before .settle .ensures .1 .1) (c .before .before .before .before .before .before .settle .kept .1 .1 .0) in
+    (c .before .before .before .before .before .before .settle .ensures .0 .fit .steady, first .0, first .1, omega (arith, c .before .before .before .before .before .before .before .before .before .before .before .before .loop-test .taken), omega (arith, l .inv))
 
 wakes-requires-2 : tie.Need-wakes-requires-2 Inv-loop μ-loop
-wakes-requires-2 c κs = ?
+wakes-requires-2 c κs =
+    let start = c .before .before .before .before .before .before .before .before .before .before .before .before .before .before .before .before .before .before .before .before .args in
+    let l = c .before .before .before .before .before .before .before .before .before .before .before .before .before .before .before .before .loop in
+    let short = clock-short (start .n) (start .h) (start .start) (start .log .now) (start .wall .now) (start .own .now) (l .t) (l .i) (l .booths) (l .wakes) (l .worked) (l .idle) (l .wall) (l .own) (l .inv) (c .before .before .before .before .before .before .before .before .before .before .before .before .before .before .if1 .left) (c .before .before .before .before .before .before .before .before .before .before .before .before .before .before .before .loop-test .taken) (l .i * start .h + start .h - l .i * start .h) (omega arith) (c .before .before .before .before .before .before .before .before .before .settle .result) (c .before .before .before .before .before .before .before .before .before .settle .last .1 .1 .0) (c .before .before .before .before .before .before .before .before .before .settle .ensures .0) (c .before .before .before .before .before .before .before .before .before .settle .ensures .1 .0) (c .before .before .before .before .before .before .before .before .before .settle .ensures .1 .1) (c .before .before .before .before .before .before .before .before .before .settle .kept .1 .1 .0) in
+    (c .before .before .play .ensures .0 .steady, omega (arith, c .before .before .play .ensures .0 .clock, l .inv, c .before .before .before .before .before .before .before .before .before .before .before .before .before .before .before .loop-test .taken))
 
 mul-wakes-2 : tie.Need-mul-wakes-2 Inv-loop μ-loop
 mul-wakes-2 c = omega (arith, c .before .before .before .before .before .before .before .before .before .before .before .before .before .before .before .before .before .loop .inv, c .before .before .before .before .before .before .before .before .before .before .before .before .before .before .before .if1 .left, c .before .before .before .before .before .before .before .before .before .before .before .before .before .before .before .before .loop-test .taken)
@@ -186,7 +192,14 @@ loop-less-4 : tie.Need-loop-less-4 Inv-loop μ-loop
 loop-less-4 c = omega (arith, c .before .before .before .before .before .before .before .before .before .before .before .before .before .before .before .before .before .loop .inv, c .before .before .before .before .before .before .before .before .before .before .before .before .before .before .before .if1 .left, c .before .before .before .before .before .before .before .before .before .before .before .before .before .before .before .before .loop-test .taken)
 
 loop-again-4 : tie.Need-loop-again-4 Inv-loop μ-loop
-loop-again-4 c = ?
+loop-again-4 c =
+    let start = c .before .before .before .before .before .before .before .before .before .before .before .before .before .before .before .before .before .before .before .before .before .args in
+    let l = c .before .before .before .before .before .before .before .before .before .before .before .before .before .before .before .before .before .loop in
+    let told = sym (c .before .before .before .before .before .before .before .choose .ensures (start .log .now) (c .before .before .before .before .before .before .before .before .before .before .settle .last .1 .1 .0)) ∙ c .before .before .before .before .before .k .given .1 in
+    let p = c .before .before .before .play in
+    rw (c .wakes2 .ensures)
+    (going-plays (start .n) (start .h) (start .start) (start .log .now) (start .wall .now) (start .own .now) (l .t) (l .i) (l .booths) (l .wakes) (l .worked) (l .idle) (l .wall) (l .own) (l .inv) (c .before .before .before .before .before .before .before .before .before .before .before .before .before .before .before .if1 .left) (c .before .before .before .before .before .before .before .before .before .before .before .before .before .before .before .before .loop-test .taken) (l .i * start .h + start .h - l .i * start .h) (omega arith) (c .before .before .before .before .before .before .before .before .before .before .settle .result) (c .before .before .before .before .before .before .before .before .before .before .settle .last .1 .1 .0) (c .before .before .before .before .before .before .before .before .before .before .settle .ensures .0) (c .before .before .before .before .before .before .before .before .before .before .settle .ensures .1 .0) (c .before .before .before .before .before .before .before .before .before .before .settle .ensures .1 .1) (c .before .before .before .before .before .before .before .before .before .before .settle .kept .1 .1 .0) (c .before .before .before .before .before .k .given .0 .0) told
+    (p .result) (p .last .1 .0) (p .ensures .0) (p .ensures .1 .0 (start .log .now)) (p .ensures .1 .1) (p .kept .1 .0))
 
 same-length : tie.Need-same-length Inv-loop μ-loop
 same-length c = search needs
@@ -196,7 +209,15 @@ same-length-2 c = search needs
 
 returns : tie.Need-returns Inv-loop μ-loop
 returns c =
-    record { asked = c .before .loop .i; wakes = c .before .loop .wakes; running = ? }
+    let start = c .before .before .before .before .before .args in
+    let l = c .before .loop in
+    let done : l .t ≡ start .h = omega (arith, l .inv) in
+    record {
+      asked = l .i;
+      wakes = l .wakes;
+      running =
+        subst (λ t. Running (linesOf (start .n) (start .start)) (start .h) (start .log .now) (start .wall .now) (start .own .now) t (l .i) (l .booths) (l .wakes) (l .worked) (l .idle) (l .wall) (l .own)) done (l .inv .running);
+    }
 
 pub run-spec : {M : Type 1} → statement M
 run-spec =
