@@ -1,0 +1,4 @@
+pub mod Waiting
+pub mod FirstTask
+pub mod Playing
+pub mod Cases
