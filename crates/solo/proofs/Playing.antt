@@ -23,10 +23,16 @@ use Rattle.rules.specs.SoloPart.{asked, firstThat, solo}
 use Rattle.rules.specs.Values.{lineHeld}
 use Rattle.laws.proofs.Counting.{count-nil, count-append, count-same, count-other}
 use Rattle.laws.proofs.Opening.{length-solo}
+use Rattle.laws.proofs.LentRows.{length-written}
 use Rattle.solo.specs.declared.Player.{Player}
 use Rattle.solo.specs.Alone.{Alone, Point, Plays, Admitted, Passed, entriesIn, entryOf, waiting, ownIn, ownTick, never}
 use Rattle.solo.proofs.Waiting.{waiting-own, waiting-other, asked-task, asked-elsewhere, none-asked}
 use Rattle.solo.proofs.FirstTask.{found, alike}
+
+pub zeros : (m k : ℕ) → _≡_ {A = ℕ} (getD (replicate m 0) k 0) 0
+zeros zero k = refl
+zeros (suc m) zero = refl
+zeros (suc m) (suc k) = zeros m k
 
 -- a store at one task
 stored : (xs : List ℕ) (i v k : ℕ) → i < length xs → (k ≡ i → getD (set xs i v) k 0 ≡ v) × (k ≢ i → getD (set xs i v) k 0 ≡ getD xs k 0)
@@ -176,7 +182,14 @@ module _ (bs : List ℕ) (line : HeldLine) (booth : ℕ) (a : Alone bs line boot
         go (inl z) = absurd (some (sym picked ∙ z))
         go (inr z) = (omega (arith, picked, z .0), ltb-true 0 (getD (p .left) tick 0) (ap (λ k. ltb 0 (getD (p .left) k 0)) (sym picked) ∙ z .1))
 
-    pub solo-step : solo l es (u + 1) ≡ solo l es u ++ (tick ∷ [])
+    pub tick-small : tick ≤ nobody
+    tick-small = go (ℕ-discrete tick nobody)
+      where
+        go : Dec (tick ≡ nobody) → tick ≤ nobody
+        go (yes q) = omega arith
+        go (no q) = omega (arith, task-picked q .0, a .tasks)
+
+    solo-step : solo l es (u + 1) ≡ solo l es u ++ (tick ∷ [])
     unfolding solo ownTick
     solo-step = rw (add-one u)
 
@@ -222,7 +235,16 @@ module _ (bs : List ℕ) (line : HeldLine) (booth : ℕ) (a : Alone bs line boot
         lost k (no q) =
             omega (arith, stored (p .left) tick (getD (p .left) tick 0 - 1) k within .1 q, count-other k tick [] (λ z. q (sym z)), count-nil k)
 
--- one byte more of the part
+-- ---- the part as far as u own ticks
+
+pub none-written : (l : Line) (es : List Entry) (lent : List ℕ) → lent ≡ written 0 (solo l es 0) lent
+unfolding written solo
+none-written l es lent = refl
+
+pub length-part : (l : Line) (es : List Entry) (u : ℕ) (part lent : List ℕ) → u ≤ length lent → part ≡ written 0 (solo l es u) lent → length part ≡ length lent
+length-part l es u part lent h e = ap length e ∙ length-written 0 (solo l es u) lent (omega (arith, length-solo l es u))
+
+-- one byte more
 pub written-more : (l : Line) (es : List Entry) (u : ℕ) (part lent : List ℕ) → u < length lent → part ≡ written 0 (solo l es u) lent
     → set part u (ownTick l es u) ≡ written 0 (solo l es (u + 1)) lent
 unfolding written solo ownTick
