@@ -4,7 +4,7 @@ use mathlib.Core.List.{List, [], _∷_}
 use mathlib.Core.Option.{Option, none, some}
 use Prim.Native.Nat.{ℕ, _≤_, _<_}
 use native.Mathlib.Omega.{arith}
-use borrow.Author.Tests.{le-leb, lt-leb, lt-ltb, le-ltb}
+use borrow.Author.Tests.{le-leb, lt-leb, lt-ltb, le-ltb, leb-false, ltb-false}
 use lib.ListN.{length, getD}
 use Rattle.rules.specs.declared.Refusal.{Refusal}
 use Rattle.rules.specs.declared.Refused.the-variants.{TheTable, TheLog, TheCall}
@@ -18,6 +18,7 @@ use Rattle.rules.specs.Due.{due}
 use Rattle.rules.specs.Session.{ownEntries}
 use Rattle.rules.specs.SoloPart.{SoloOutcome, solo, soloChecks, askSolo}
 use Rattle.rules.specs.Values.{lineHeld, linesHeld, no-held-line}
+use Rattle.rules.proofs.Checks.{passed}
 use Rattle.table.specs.Fit.{FitTable}
 use Rattle.table.proofs.Test.{held-at, held-length}
 
@@ -53,3 +54,40 @@ module _ (ls : List Line) (H booth n : ℕ) (buffer : List ℕ) where
   pub call-fits : booth < length ls → n ≤ due ((getD ls booth no-line) .promise) H → n ≤ length buffer → firstFault (soloChecks ls H booth n buffer) ≡ none
   unfolding soloChecks firstFault refuseIf
   call-fits h m b = rw (lt-leb (length ls) booth h, le-ltb (due ((getD ls booth no-line) .promise) H) n m, le-ltb (length buffer) n b)
+
+-- what is known of a call that they let pass
+pub record Fits (ls : List Line) (H booth n : ℕ) (buffer : List ℕ) : Type 0 where
+  pub present : booth < length ls
+  pub few : n ≤ due ((getD ls booth no-line) .promise) H
+  pub room : n ≤ length buffer
+
+pub call-passed : (ls : List Line) (H booth n : ℕ) (buffer : List ℕ) → firstFault (soloChecks ls H booth n buffer) ≡ none → Fits ls H booth n buffer
+unfolding soloChecks
+call-passed ls H booth n buffer e =
+    let a = passed _ _ _ _ e in
+    let b = passed _ _ _ _ (a .1) in
+    let c = passed _ _ _ _ (b .1) in
+    record { present = leb-false _ _ (a .0); few = ltb-false _ _ (b .0); room = ltb-false _ _ (c .0) }
+
+-- ---- the outcome
+
+module _ (tableBytes logBytes : List ℕ) (booth n : ℕ) (buffer : List ℕ) where
+  pub bad-table : (r : Refusal) → readTable tableBytes ≡ refused r → askSolo tableBytes logBytes booth n buffer ≡ record { verdict = refusedAs TheTable r; buffer = buffer }
+  unfolding askSolo
+  bad-table r e = rw (e, askSolo)
+
+  module _ (ls : List Line) (q : readTable tableBytes ≡ taken ls) where
+    pub bad-log : (r : Refusal) → readLog ls logBytes ≡ refused r → askSolo tableBytes logBytes booth n buffer ≡ record { verdict = refusedAs TheLog r; buffer = buffer }
+    unfolding askSolo
+    bad-log r e = rw (q, askSolo) (rw e)
+
+    module _ (log : Log) (p : readLog ls logBytes ≡ taken log) where
+      pub bad-call : (r : Refusal) → firstFault (soloChecks ls (log .horizon) booth n buffer) ≡ some r
+          → askSolo tableBytes logBytes booth n buffer ≡ record { verdict = refusedAs TheCall r; buffer = buffer }
+      unfolding askSolo
+      bad-call r e = rw (q, askSolo) (rw p (rw e))
+
+      pub part-written : firstFault (soloChecks ls (log .horizon) booth n buffer) ≡ none
+          → askSolo tableBytes logBytes booth n buffer ≡ record { verdict = accepted; buffer = written 0 (solo (getD ls booth no-line) (ownEntries booth (log .entries)) n) buffer }
+      unfolding askSolo
+      part-written e = rw (q, askSolo) (rw p (rw e))
