@@ -1,7 +1,7 @@
 -- What a call is answered, case by case. Assumes nothing.
-use mathlib.Core.Path.{_≡_, refl, sym, ap, _∙_}
-use mathlib.Core.List.{List, [], _∷_}
-use mathlib.Core.Option.{Option, none, some}
+use mathlib.Core.Path.{_≡_, ap}
+use mathlib.Core.List.{List}
+use mathlib.Core.Option.{none, some}
 use Prim.Native.Nat.{ℕ, _≤_, _<_}
 use native.Mathlib.Omega.{arith}
 use borrow.Author.Tests.{le-leb, lt-leb, lt-ltb, le-ltb, leb-false, ltb-false}
@@ -10,13 +10,13 @@ use Rattle.rules.specs.declared.Refusal.{Refusal}
 use Rattle.rules.specs.declared.Refused.the-variants.{TheTable, TheLog, TheCall}
 use Rattle.rules.specs.declared.Table.{Table as HeldTable}
 use Rattle.rules.specs.Bytes.{written}
-use Rattle.rules.specs.Refusals.{Taken, taken, refused, refusal, refuseIf, firstFault, accepted, refusedAs}
+use Rattle.rules.specs.Refusals.{taken, refused, refusal, refuseIf, firstFault, accepted, refusedAs}
 use Rattle.rules.specs.BoothTable.{Line, no-line}
 use Rattle.rules.specs.ArrivalLog.{Log, readLog}
 use Rattle.rules.specs.Admission.{readTable}
 use Rattle.rules.specs.Due.{due}
 use Rattle.rules.specs.Session.{ownEntries}
-use Rattle.rules.specs.SoloPart.{SoloOutcome, solo, soloChecks, askSolo}
+use Rattle.rules.specs.SoloPart.{solo, soloChecks, askSolo}
 use Rattle.rules.specs.Values.{lineHeld, linesHeld, no-held-line}
 use Rattle.rules.proofs.Checks.{passed}
 use Rattle.table.specs.Fit.{FitTable}

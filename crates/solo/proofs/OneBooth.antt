@@ -1,13 +1,13 @@
 -- What a table and a log that were taken say of one booth. Assumes nothing.
 use mathlib.Core.Path.{_≡_, refl, sym, ap, _∙_}
 use mathlib.Core.List.{List, [], _∷_}
-use Prim.Native.Nat.{ℕ, zero, suc, _+_, _-_, _*_, _≤_, _<_, suc-le-suc}
+use Prim.Native.Nat.{ℕ, suc, _+_, _-_, _*_, _≤_, _<_, suc-le-suc}
 use native.Mathlib.Nat.{add-zero, add-suc, suc-add}
 use native.Mathlib.Omega.{arith}
-use lib.ListN.{length, getD, take, length-take}
+use lib.ListN.{length, getD, length-take}
 use Rattle.rules.specs.declared.Table.{Table as HeldTable}
 use Rattle.rules.specs.Bytes.{byteAt}
-use Rattle.rules.specs.Refusals.{Taken, taken}
+use Rattle.rules.specs.Refusals.{taken}
 use Rattle.rules.specs.BoothTable.{no-line}
 use Rattle.rules.specs.ArrivalLog.{Entry, Log, longestJobs, readLog}
 use Rattle.rules.specs.Due.{due}
@@ -56,8 +56,7 @@ module _ (t : HeldTable) (fit : FitTable t) (bs : List ℕ) (log : Log) (read : 
           sound = line .promise;
           tasks = line .tasks;
           eight = line .eight;
-          whole = omega (arith, all-entries, known .whole);
-          few = omega (arith, all-entries, known .few);
+          log = record { whole = omega (arith, all-entries, known .whole); few = omega (arith, all-entries, known .few) };
           rising = λ i h. known .rising i (omega (arith, all-entries));
           task = λ i h e. omega (
             arith,

@@ -1,14 +1,14 @@
 -- A player keeps what its record says: at the start, over each entry it passes, and over each own tick. Assumes nothing.
 use mathlib.Core.Path.{_≡_, refl, sym, ap, _∙_, subst}
 use mathlib.Core.Logic.{_⊎_, inl, inr, _≢_}
-use mathlib.Core.Bool.{Bool, true, false}
+use mathlib.Core.Bool.{true}
 use mathlib.Core.List.{List, [], _∷_, _++_}
-use Prim.Native.Nat.{ℕ, zero, suc, _+_, _-_, _*_, _≤_, _<_}
+use Prim.Native.Nat.{ℕ, zero, suc, _+_, _-_, _≤_, _<_}
 use native.Mathlib.Decide.{ℕ-discrete, decLe}
 use native.Mathlib.Numerals.{add-one}
 use native.Mathlib.Omega.{arith}
 use lib.Dec.{ltb}
-use lib.ListN.{length, getD, set, take, drop, replicate, length-set, length-append}
+use lib.ListN.{length, getD, set, drop, replicate, length-set, length-append}
 use lib.Seq.{getD-set-same, getD-set-other, length-take-le, set-at, drop-cons, append-snoc}
 use borrow.Author.Tests.{lt-ltb, le-ltb, ltb-true}
 use Rattle.rules.specs.declared.Line.{Line as HeldLine}
@@ -16,7 +16,7 @@ use Rattle.rules.specs.declared.OwnTick.{OwnTick}
 use Rattle.rules.specs.Bytes.{written}
 use Rattle.rules.specs.BoothTable.{Line}
 use Rattle.rules.specs.ArrivalLog.{Entry}
-use Rattle.rules.specs.Due.{due, releasePoint}
+use Rattle.rules.specs.Due.{releasePoint}
 use Rattle.rules.specs.Moves.{nobody}
 use Rattle.rules.specs.Session.{count}
 use Rattle.rules.specs.SoloPart.{asked, firstThat, solo}
@@ -52,7 +52,7 @@ module _ (bs : List ℕ) (line : HeldLine) (booth : ℕ) (a : Alone bs line boot
     place = omega arith;
     point = p;
     eight = e;
-    room = λ k. omega (arith, z k, a .few);
+    room = λ k. omega (arith, z k, a .log .few);
     sums = λ n k h j. omega (arith, z k, count-nil k);
   }
 
@@ -69,6 +69,9 @@ module _ (bs : List ℕ) (line : HeldLine) (booth : ℕ) (a : Alone bs line boot
     abbrev e : Entry
     e = entryOf bs (p .next)
 
+    abbrev asks-task : ℕ
+    asks-task = getD (p .left) (e .task) 0 + e .demand
+
     -- what the player holds and what still waits add up to what they did
     Kept : Type 0
     Kept =
@@ -78,42 +81,34 @@ module _ (bs : List ℕ) (line : HeldLine) (booth : ℕ) (a : Alone bs line boot
 
     kept-own : e .booth ≡ booth → Kept
     unfolding Kept releasePoint lineHeld
-    kept-own o =
-        let within : e .task < length (p .left) = omega (arith, a .task (p .next) inside o, a .tasks, plays .eight) in
-        let left : r .left ≡ set (p .left) (e .task) (getD (p .left) (e .task) 0 + e .demand) = passed .own o in (
-          ap length left ∙ length-set (p .left) (e .task) (getD (p .left) (e .task) 0 + e .demand) ∙ plays .eight,
-          (λ k. more k (ℕ-discrete k (e .task)) within left),
-          λ n k h. sums n k h (ℕ-discrete k (e .task)) within left,
-        )
+    kept-own own = (
+      ap length (passed .own own) ∙ length-set (p .left) (e .task) asks-task ∙ plays .eight,
+      (λ k. more k (ℕ-discrete k (e .task))),
+      λ n k h. sums n k h (ℕ-discrete k (e .task)),
+    )
       where
-        at : (k : ℕ) → r .left ≡ set (p .left) (e .task) (getD (p .left) (e .task) 0 + e .demand)
-            → getD (r .left) k 0 ≡ getD (set (p .left) (e .task) (getD (p .left) (e .task) 0 + e .demand)) k 0
-        at k left = ap (λ xs. getD xs k 0) left
+        within : e .task < length (p .left)
+        within = omega (arith, a .task (p .next) inside own, a .tasks, plays .eight)
 
-        more : (k : ℕ) → Dec (k ≡ e .task) → e .task < length (p .left) → r .left ≡ set (p .left) (e .task) (getD (p .left) (e .task) 0 + e .demand)
-            → getD (r .left) k 0 ≤ getD (p .left) k 0 + 65535
-        more k (yes q) w left = omega (arith, at k left, stored (p .left) (e .task) (getD (p .left) (e .task) 0 + e .demand) k w .0 q, ap (λ j. getD (p .left) j 0) q, a .demand (p .next) inside)
-        more k (no q) w left = omega (arith, at k left, stored (p .left) (e .task) (getD (p .left) (e .task) 0 + e .demand) k w .1 q)
+        here : (k : ℕ) → k ≡ e .task → getD (r .left) k 0 ≡ getD (p .left) k 0 + e .demand
+        here k q =
+            ap (λ xs. getD xs k 0) (passed .own own) ∙ (stored (p .left) (e .task) asks-task k within) .0 q ∙ ap (λ j. getD (p .left) j 0 + e .demand) (sym q)
 
-        sums : (n k : ℕ) → u ≤ n → Dec (k ≡ e .task) → e .task < length (p .left) → r .left ≡ set (p .left) (e .task) (getD (p .left) (e .task) 0 + e .demand)
+        elsewhere : (k : ℕ) → k ≢ e .task → getD (r .left) k 0 ≡ getD (p .left) k 0
+        elsewhere k q = ap (λ xs. getD xs k 0) (passed .own own) ∙ (stored (p .left) (e .task) asks-task k within) .1 q
+
+        more : (k : ℕ) → Dec (k ≡ e .task) → getD (r .left) k 0 ≤ getD (p .left) k 0 + 65535
+        more k (yes q) = omega (arith, here k q, a .demand (p .next) inside)
+        more k (no q) = omega (arith, elsewhere k q)
+
+        now-waiting : (n k : ℕ) → asked l (waiting bs booth (p .next)) n k ≡ asked l (e ∷ waiting bs booth (p .next + 1)) n k
+        now-waiting n k = ap (λ xs. asked l xs n k) (waiting-own bs booth (p .next) inside own)
+
+        sums : (n k : ℕ) → u ≤ n → Dec (k ≡ e .task)
             → getD (r .left) k 0 + asked l (waiting bs booth (p .next + 1)) n k ≡ getD (p .left) k 0 + asked l (waiting bs booth (p .next)) n k
-        sums n k h (yes q) w left =
-            omega (
-              arith,
-              at k left,
-              stored (p .left) (e .task) (getD (p .left) (e .task) 0 + e .demand) k w .0 q,
-              ap (λ j. getD (p .left) j 0) q,
-              ap (λ xs. asked l xs n k) (waiting-own bs booth (p .next) inside o),
-              asked-task l e (waiting bs booth (p .next + 1)) n k (omega (arith, plays .point .some inside)) (sym q),
-            )
-        sums n k h (no q) w left =
-            omega (
-              arith,
-              at k left,
-              stored (p .left) (e .task) (getD (p .left) (e .task) 0 + e .demand) k w .1 q,
-              ap (λ xs. asked l xs n k) (waiting-own bs booth (p .next) inside o),
-              asked-elsewhere l e (waiting bs booth (p .next + 1)) n k (λ z. q (sym z)),
-            )
+        sums n k h (yes q) =
+            omega (arith, here k q, now-waiting n k, asked-task l e (waiting bs booth (p .next + 1)) n k (omega (arith, plays .point .some inside)) (sym q))
+        sums n k h (no q) = omega (arith, elsewhere k q, now-waiting n k, asked-elsewhere l e (waiting bs booth (p .next + 1)) n k (λ z. q (sym z)))
 
     kept-other : e .booth ≢ booth → Kept
     unfolding Kept

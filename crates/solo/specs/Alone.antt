@@ -44,12 +44,15 @@ never = 4294967295
 
 -- ---- what holds of an accepted log and a line of its table, for one booth
 
+pub record WholeLog (bs : List ℕ) : Type 0 where
+  pub whole : length bs ≡ 9 + 9 * entriesIn bs
+  pub few : entriesIn bs ≤ 4096
+
 pub record Alone (bs : List ℕ) (line : HeldLine) (booth : ℕ) : Type 0 where
   pub sound : Sounds (line .promise)
   pub tasks : line .tasks ≤ 8
   pub eight : length (line .longest) ≡ 8
-  pub whole : length bs ≡ 9 + 9 * entriesIn bs
-  pub few : entriesIn bs ≤ 4096
+  pub log : WholeLog bs
   pub rising : (i : ℕ) → i + 1 < entriesIn bs → (entryOf bs i) .tick ≤ (entryOf bs (i + 1)) .tick
   pub task : (i : ℕ) → i < entriesIn bs → (entryOf bs i) .booth ≡ booth → (entryOf bs i) .task < line .tasks
   pub demand : (i : ℕ) → i < entriesIn bs → (entryOf bs i) .demand ≤ 65535

@@ -5,16 +5,16 @@ ghost use Prim.Native.Nat.{ℕ, _+_, _*_, _≤_, _<_};
 ghost use lib.Dec.{ltb};
 ghost use lib.ListN.{length, getD, set};
 ghost use Rattle.rules.specs.Bytes.{written};
-ghost use Rattle.rules.specs.Refusals as numbers;
+ghost use Rattle.rules.specs.Due.{due};
 ghost use Rattle.rules.specs.Refusals.{firstFault, faultOf};
 ghost use Rattle.rules.specs.SoloPart as page;
 ghost use Rattle.rules.specs.Values.{lineHeld, linesHeld};
-ghost use Rattle.table.specs.Fit.{FitTable};
-ghost use Rattle.solo.specs.Alone.{Alone, Point, Plays, Admitted, Passed, entriesIn, ownIn, ownTick};
+ghost use Rattle.table.specs.Fit.{FitTable, Sounds};
+ghost use Rattle.solo.specs.Alone.{Alone, WholeLog, Point, Plays, Admitted, Passed, entriesIn, ownIn, ownTick};
+use arrivals::Entry;
 use rules::Fault;
 use rules::Line;
 use rules::OwnTick;
-use rules::Promise;
 use rules::Refusal;
 use rules::Refused;
 use rules::Table;
@@ -35,17 +35,25 @@ struct Player {
     left: [u32; 8],
 }
 
-// The release point of the log's entry i; never, where there is no such entry.
-fn point_of(log: &[u8], booth: usize, line: Line, i: usize) -> OwnTick
-    requires { ⌜ Alone (now log) line booth × (i ≤ entriesIn (now log)) ⌝ }
+// An entry is released at due of its wall tick; this is the one place where the solo part turns the one into the other.
+fn release_point(line: Line, entry: Entry) -> OwnTick
+    requires { ⌜ Sounds (line .promise) ⌝ }
+    ensures { λ r. ⌜ r .0 ≡ due (line .promise) (entry .tick .0) ⌝ }
+{
+    let promise = line.promise;
+    rules::due(promise, entry.tick)
+}
+
+// The release point of the log's entry i by this line; never, where there is no such entry.
+fn point_of(log: &[u8], line: Line, i: usize) -> OwnTick
+    requires { ⌜ Sounds (line .promise) × WholeLog (now log) × (i ≤ entriesIn (now log)) ⌝ }
     ensures { λ r. ⌜ Point (now (log .entry)) line i (r .0) ⌝ }
 {
     if log.len() < 18 + 9 * i {
         return OwnTick(NEVER);
     }
     let entry = arrivals::entry_of(log, i);
-    let promise = line.promise;
-    rules::due(promise, entry.tick)
+    release_point(line, entry)
 }
 
 // The first task with something left to play.
@@ -72,7 +80,7 @@ impl Player {
         let i = self.next;
         let entry = arrivals::entry_of(log, i);
         self.next = i + 1;
-        let point = point_of(log, booth, line, i + 1);
+        let point = point_of(log, line, i + 1);
         self.point = point;
         if entry.booth == booth {
             let task = entry.task;
@@ -114,7 +122,7 @@ fn write_part(log: &[u8], booth: usize, line: Line, n: OwnTick, part: &mut [u8])
     requires { ⌜ Alone (now log) line booth × (n .0 ≤ 1000000) × (n .0 ≤ length (now part)) ⌝ }
     ensures { λ r. ⌜ now (part .exit) ≡ written 0 (page.solo (lineHeld line) (ownIn (now (log .entry)) booth) (n .0)) (now (part .entry)) ⌝ }
 {
-    let point = point_of(log, booth, line, 0);
+    let point = point_of(log, line, 0);
     let left = [0u32; 8];
     let mut player = Player {
         next: 0,

@@ -11,10 +11,6 @@ use Rattle.solo.proofs.Cases.{lines-in, promise-in, call-absent, call-m
 use borrow.Author.Needs.{needs}
 use Rattle.solo.proofs.call_fault.Statement.{statement}
 use Rattle.solo.proofs.call_fault.Tie as tie
-use Rattle.solo.proofs.call_fault.Reads as reads
-use Rattle.solo.proofs.call_fault.Lts as lts
-use Rattle.rules.proofs.due.Reads as due-reads
-use Rattle.rules.proofs.fault_at.Reads as fault-at-reads
 
 fault-at-requires : tie.Need-fault-at-requires
 fault-at-requires c κs = search needs

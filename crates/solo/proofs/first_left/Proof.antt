@@ -1,5 +1,5 @@
 -- `solo::first_left` meets its contract: the tasks before k have nothing left. Assumes nothing.
-use mathlib.Core.Path.{_≡_, refl, sym, _∙_}
+use mathlib.Core.Path.{_≡_, sym, _∙_}
 use Prim.Native.Nat.{_-_, _≤_}
 use native.Mathlib.Omega.{arith}
 use lib.Dec.{ltb}
@@ -10,8 +10,6 @@ use Rattle.rules.specs.SoloPart.{firstThat}
 use Rattle.solo.proofs.FirstTask.{search-start, search-hit, search-on, search-end}
 use Rattle.solo.proofs.first_left.Statement.{statement}
 use Rattle.solo.proofs.first_left.Tie as tie
-use Rattle.solo.proofs.first_left.Reads as reads
-use Rattle.solo.proofs.first_left.Lts as lts
 
 abbrev Inv-loop : tie.InvT-loop
 Inv-loop tasks left k₀ k = (k ≤ tasks) × (firstThat (λ j. ltb 0 (getD left j 0)) tasks 0 ≡ firstThat (λ j. ltb 0 (getD left j 0)) (tasks - k) k)

@@ -1,15 +1,15 @@
 -- `solo::solo_part` meets its contract: table, log, call, then the part. Assumes nothing.
 use mathlib.Core.Path.{_≡_, refl, sym, ap, _∙_}
-use mathlib.Core.Option.{none, some}
+use mathlib.Core.Option.{none}
 use Prim.Native.Nat.{_≤_, _<_}
 use native.Mathlib.Omega.{arith}
-use lib.ListN.{length, getD}
+use lib.ListN.{getD}
 use Rattle.rules.specs.Bytes.{written}
 use Rattle.rules.specs.Refusals.{taken, refusal, refusedAs, accepted, firstFault, faultOf}
 use Rattle.rules.specs.BoothTable.{no-line}
 use Rattle.rules.specs.Admission.{readTable}
 use Rattle.rules.specs.SoloPart.{solo, soloChecks}
-use Rattle.rules.specs.Values.{lineHeld, linesHeld, no-held-line}
+use Rattle.rules.specs.Values.{linesHeld}
 use Rattle.rules.proofs.Checks.{nothing-found, fault-found}
 use Rattle.rules.proofs.Held.{lines-held}
 use Rattle.table.proofs.Numbers.{answer-taken, answer-refused}
@@ -20,12 +20,6 @@ use Rattle.solo.proofs.OneBooth.{own-are, alone, due-small}
 use borrow.Author.Needs.{needs}
 use Rattle.solo.proofs.solo_part.Statement.{statement}
 use Rattle.solo.proofs.solo_part.Tie as tie
-use Rattle.solo.proofs.solo_part.Reads as reads
-use Rattle.solo.proofs.solo_part.Lts as lts
-use Rattle.arrivals.proofs.read_log.Reads as read-log-reads
-use Rattle.solo.proofs.call_fault.Reads as call-fault-reads
-use Rattle.solo.proofs.write_part.Reads as write-part-reads
-use Rattle.table.proofs.read_table.Reads as read-table-reads
 
 read-table-requires : tie.Need-read-table-requires
 read-table-requires c κs = search needs

@@ -1,8 +1,7 @@
 -- `solo::write_part` meets its contract: after u turns the part holds the first u own ticks. Assumes nothing.
-use mathlib.Core.Path.{_≡_, refl, sym, ap, _∙_}
-use Prim.Native.Nat.{_+_, _-_, _≤_}
+use mathlib.Core.Path.{_≡_, refl, ap, _∙_}
+use Prim.Native.Nat.{_-_, _≤_}
 use native.Mathlib.Omega.{arith}
-use borrow.Author.Needs.{needs}
 use Rattle.rules.specs.Bytes.{written}
 use Rattle.rules.specs.SoloPart.{solo}
 use Rattle.rules.specs.Values.{lineHeld}
@@ -10,10 +9,6 @@ use Rattle.solo.specs.Alone.{Plays, ownIn}
 use Rattle.solo.proofs.Playing.{zeros, starts, none-written, length-part, written-more}
 use Rattle.solo.proofs.write_part.Statement.{statement}
 use Rattle.solo.proofs.write_part.Tie as tie
-use Rattle.solo.proofs.write_part.Reads as reads
-use Rattle.solo.proofs.write_part.Lts as lts
-use Rattle.solo.proofs.Player.play.Reads as play-reads
-use Rattle.solo.proofs.point_of.Reads as point-of-reads
 
 abbrev Inv-loop : tie.InvT-loop
 Inv-loop log booth line n part₀ player₀ u₀ part player u = (u ≤ n .0) × Plays log line booth u player × (part ≡ written 0 (solo (lineHeld line) (ownIn log booth) u) part₀)
@@ -22,7 +17,7 @@ abbrev μ-loop : tie.MeasureT-loop
 μ-loop log booth line n part₀ player₀ u₀ part player u = n .0 - u
 
 point-of-requires : tie.Need-point-of-requires Inv-loop μ-loop
-point-of-requires c κs = (c .before .before .pre .0, omega arith)
+point-of-requires c κs = let a = c .before .before .pre .0 in (a .sound, a .log, omega arith)
 
 loop-holds : tie.Need-loop-holds Inv-loop μ-loop
 loop-holds c = (omega arith, starts _ _ _ (c .before .before .before .pre .0) _ _ (c .point-of .ensures) refl (zeros 8), none-written _ _ _)

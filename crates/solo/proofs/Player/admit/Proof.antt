@@ -2,13 +2,9 @@
 use Prim.Native.Nat.{_-_, _<_}
 use Rattle.solo.specs.Alone.{Plays, entriesIn}
 use Rattle.solo.proofs.Playing.{there, plays-on}
-use borrow.Author.Needs.{needs}
 use native.Mathlib.Omega.{arith}
 use Rattle.solo.proofs.Player.admit.Statement.{statement}
 use Rattle.solo.proofs.Player.admit.Tie as tie
-use Rattle.solo.proofs.Player.admit.Reads as reads
-use Rattle.solo.proofs.Player.admit.Lts as lts
-use Rattle.solo.proofs.Player.pass.Reads as pass-reads
 
 abbrev Inv-loop : tie.InvT-loop
 Inv-loop self₀ log booth line u self = Plays log line booth (u .0) self

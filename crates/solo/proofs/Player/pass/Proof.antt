@@ -1,6 +1,6 @@
 -- `solo::Player::pass` meets its contract: the entry's demand goes to its task if the entry is the booth's. Assumes nothing.
 
-use mathlib.Core.Path.{_≡_, refl, sym, ap, _∙_}
+use mathlib.Core.Path.{refl, sym, ap, _∙_}
 use Prim.Native.Nat.{_+_, _≤_, _<_}
 use native.Mathlib.Omega.{arith}
 use lib.ListN.{getD, set}
@@ -8,10 +8,6 @@ use Rattle.arrivals.specs.Answer.{heldEntry}
 use borrow.Author.Needs.{needs}
 use Rattle.solo.proofs.Player.pass.Statement.{statement}
 use Rattle.solo.proofs.Player.pass.Tie as tie
-use Rattle.solo.proofs.Player.pass.Reads as reads
-use Rattle.solo.proofs.Player.pass.Lts as lts
-use Rattle.arrivals.proofs.entry_of.Reads as entry-of-reads
-use Rattle.solo.proofs.point_of.Reads as point-of-reads
 
 entry-of-requires : tie.Need-entry-of-requires
 entry-of-requires c κs = search needs

@@ -1,6 +1,5 @@
 -- `solo::Player::play` meets its contract: the first task with something left is the one the solo part plays. Assumes nothing.
 use mathlib.Core.Path.{_≡_, sym, ap, _∙_, subst}
-use mathlib.Core.Logic.{_≢_}
 use Prim.Native.Nat.{_+_, _-_, _<_}
 use native.Mathlib.Omega.{arith}
 use lib.ListN.{getD, set}
@@ -10,10 +9,6 @@ use Rattle.solo.proofs.Playing.{picked, task-picked, tick-small, silent
 use borrow.Author.Needs.{needs}
 use Rattle.solo.proofs.Player.play.Statement.{statement}
 use Rattle.solo.proofs.Player.play.Tie as tie
-use Rattle.solo.proofs.Player.play.Reads as reads
-use Rattle.solo.proofs.Player.play.Lts as lts
-use Rattle.solo.proofs.Player.admit.Reads as admit-reads
-use Rattle.solo.proofs.first_left.Reads as first-left-reads
 
 admit-requires : tie.Need-admit-requires
 admit-requires c κs = search needs
