@@ -1,0 +1,200 @@
+// The solo part: what a booth plays alone, from its line and its own entries, and without the session's moves.
+ghost use mathlib.Core.Path.{_≡_};
+ghost use mathlib.Core.List.{List};
+ghost use Prim.Native.Nat.{ℕ, _+_, _*_, _≤_, _<_};
+ghost use lib.Dec.{ltb};
+ghost use lib.ListN.{length, getD, set};
+ghost use Rattle.rules.specs.Bytes.{written};
+ghost use Rattle.rules.specs.Due.{due};
+ghost use Rattle.rules.specs.Refusals.{firstFault, faultOf};
+ghost use Rattle.rules.specs.SoloPart as page;
+ghost use Rattle.rules.specs.Values.{lineHeld, linesHeld};
+ghost use Rattle.table.specs.Fit.{FitTable, Sounds};
+ghost use Rattle.solo.specs.Alone.{Alone, WholeLog, Point, Plays, Admitted, Passed, entriesIn, ownIn, ownTick};
+use arrivals::Entry;
+use rules::Fault;
+use rules::Line;
+use rules::OwnTick;
+use rules::Refusal;
+use rules::Refused;
+use rules::Table;
+use rules::Verdict;
+use rules::WallTick;
+
+// Stands in a part where no task plays.
+const NOBODY: usize = 255;
+// A release point that no own tick reaches.
+const NEVER: u32 = 4294967295;
+
+// A booth that plays alone. Ticks never fall, so release points never do, and the place in the log only moves on.
+struct Player {
+    // The log's first entry that is not passed yet, and its release point.
+    next: usize,
+    point: OwnTick,
+    // What each task was asked and has not played.
+    left: [u32; 8],
+}
+
+// An entry is released at due of its wall tick; this is the one place where the solo part turns the one into the other.
+fn release_point(line: Line, entry: Entry) -> OwnTick
+    requires { ⌜ Sounds (line .promise) ⌝ }
+    ensures { λ r. ⌜ r .0 ≡ due (line .promise) (entry .tick .0) ⌝ }
+{
+    let promise = line.promise;
+    rules::due(promise, entry.tick)
+}
+
+// The release point of the log's entry i by this line; never, where there is no such entry.
+fn point_of(log: &[u8], line: Line, i: usize) -> OwnTick
+    requires { ⌜ Sounds (line .promise) × WholeLog (now log) × (i ≤ entriesIn (now log)) ⌝ }
+    ensures { λ r. ⌜ Point (now (log .entry)) line i (r .0) ⌝ }
+{
+    if log.len() < 18 + 9 * i {
+        return OwnTick(NEVER);
+    }
+    let entry = arrivals::entry_of(log, i);
+    release_point(line, entry)
+}
+
+// The first task with something left to play.
+fn first_left(left: [u32; 8], tasks: usize) -> usize
+    requires { ⌜ tasks ≤ 8 ⌝ }
+    ensures { λ r. ⌜ r ≡ page.firstThat (λ k. ltb 0 (getD left k 0)) tasks 0 ⌝ }
+{
+    let mut k = 0;
+    while k < tasks {
+        if 0 < left[k] {
+            return k;
+        }
+        k += 1;
+    }
+    NOBODY
+}
+
+impl Player {
+    // The next entry is passed, and asks its task if it is the booth's.
+    fn pass(mut self, log: &[u8], booth: usize, line: Line) -> Self
+        requires { ⌜ Alone (now log) line booth × (self .next < entriesIn (now log)) × (length (self .left) ≡ 8) × ((k : ℕ) → getD (self .left) k 0 ≤ 65535 * 4096) ⌝ }
+        ensures { λ r. ⌜ Passed (now (log .entry)) line booth self r ⌝ }
+    {
+        let i = self.next;
+        let entry = arrivals::entry_of(log, i);
+        self.next = i + 1;
+        let point = point_of(log, line, i + 1);
+        self.point = point;
+        if entry.booth == booth {
+            let task = entry.task;
+            self.left[task] = self.left[task] + entry.demand;
+        }
+        self
+    }
+
+    // Every entry with release point at most `u` is passed.
+    fn admit(mut self, log: &[u8], booth: usize, line: Line, u: OwnTick) -> Self
+        requires { ⌜ Alone (now log) line booth × Plays (now log) line booth (u .0) self × (u .0 < 1000000) ⌝ }
+        ensures { λ r. ⌜ Admitted (now (log .entry)) line booth (u .0) r ⌝ }
+    {
+        while self.point.0 <= u.0 {
+            self = self.pass(log, booth, line);
+        }
+        self
+    }
+
+    // Own tick `u`: its entries are admitted, and the first task with something left plays.
+    fn play(mut self, log: &[u8], booth: usize, line: Line, u: OwnTick, part: &mut [u8]) -> Self
+        requires { ⌜ Alone (now log) line booth × Plays (now log) line booth (u .0) self × (u .0 < 1000000) × (u .0 < length (now part)) ⌝ }
+        ensures plays { λ r. ⌜ Plays (now (log .entry)) line booth (u .0 + 1) r ⌝ }
+        ensures byte { λ r. ⌜ now (part .exit) ≡ set (now (part .entry)) (u .0) (ownTick (lineHeld line) (ownIn (now (log .entry)) booth) (u .0)) ⌝ }
+    {
+        self = self.admit(log, booth, line, u);
+        let left = self.left;
+        let task = first_left(left, line.tasks);
+        part[u.0 as usize] = task as u8;
+        if task != NOBODY {
+            self.left[task] = self.left[task] - 1;
+        }
+        self
+    }
+}
+
+// The first `n` own ticks, one behind the other.
+fn write_part(log: &[u8], booth: usize, line: Line, n: OwnTick, part: &mut [u8])
+    requires { ⌜ Alone (now log) line booth × (n .0 ≤ 1000000) × (n .0 ≤ length (now part)) ⌝ }
+    ensures { λ r. ⌜ now (part .exit) ≡ written 0 (page.solo (lineHeld line) (ownIn (now (log .entry)) booth) (n .0)) (now (part .entry)) ⌝ }
+{
+    let point = point_of(log, line, 0);
+    let left = [0u32; 8];
+    let mut player = Player {
+        next: 0,
+        point,
+        left,
+    };
+    let mut u: u32 = 0;
+    while u < n.0 {
+        player = player.play(log, booth, line, OwnTick(u), part);
+        u += 1;
+    }
+}
+
+// An absent booth, more own ticks than are due by the session's end, a buffer too short for them.
+fn call_fault(table: Table, horizon: u32, booth: usize, n: usize, room: usize) -> Fault
+    requires { ⌜ FitTable table ⌝ }
+    ensures { λ r. ⌜ ((buffer : List ℕ) → length buffer ≡ room → r ≡ faultOf (firstFault (page.soloChecks (linesHeld table) horizon booth n buffer))) ⌝ }
+{
+    if table.booths <= booth {
+        return rules::fault_at(9, 0);
+    }
+    let lines = table.lines;
+    let line = lines[booth];
+    let promise = line.promise;
+    let all = rules::due(promise, WallTick(horizon));
+    if (all.0 as usize) < n {
+        return rules::fault_at(11, 0);
+    }
+    if room < n {
+        return rules::fault_at(11, 0);
+    }
+    Fault::Nothing
+}
+
+// The first `n` own ticks of a booth's solo part, for any bytes as table and log; the buffer's other bytes keep what they held.
+pub fn solo_part(table: &[u8], log: &[u8], booth: usize, n: usize, part: &mut [u8]) -> Verdict
+    ensures verdict { λ r. ⌜ r ≡ (page.askSolo (now (table .entry)) (now (log .entry)) booth n (now (part .entry))) .verdict ⌝ }
+    ensures buffer { λ r. ⌜ now (part .exit) ≡ (page.askSolo (now (table .entry)) (now (log .entry)) booth n (now (part .entry))) .buffer ⌝ }
+{
+    let read = table::read_table(table);
+    let refusal = read.refusal;
+    if refusal.number != 0 {
+        return Verdict {
+            refused: Refused::TheTable,
+            refusal,
+        };
+    }
+    let held = read.table;
+    let logged = arrivals::read_log(held, log);
+    let log_refusal = logged.refusal;
+    if log_refusal.number != 0 {
+        return Verdict {
+            refused: Refused::TheLog,
+            refusal: log_refusal,
+        };
+    }
+    let found = call_fault(held, logged.horizon, booth, n, part.len());
+    if let Fault::Found(call_refusal) = found {
+        return Verdict {
+            refused: Refused::TheCall,
+            refusal: call_refusal,
+        };
+    }
+    let lines = held.lines;
+    let line = lines[booth];
+    write_part(log, booth, line, OwnTick(n as u32), part);
+    let refusal = Refusal {
+        number: 0,
+        place: 0,
+    };
+    Verdict {
+        refused: Refused::Nothing,
+        refusal,
+    }
+}
