@@ -10,15 +10,16 @@ use native.Mathlib.Numerals.{add-one}
 use native.Mathlib.Omega.{arith}
 use lib.Dec.{leb, ltb, eqb}
 use lib.ListN.{length-append, length, getD, take, drop, set, replicate, length-set, length-take, length-drop, length-map, take-append-drop}
-use lib.Seq.{getD-set-same, getD-set-other, length-take-le, ext-getD, getD-take, getD-append-add}
+use lib.Seq.{getD-set-same, getD-set-other, length-take-le, ext-getD, getD-take, getD-append-add, take-suc}
 use borrow.Author.Tests.{eqb-true, eqb-false}
 use Rattle.rules.specs.BoothTable.{Line}
 use Rattle.rules.specs.ArrivalLog.{Entry, Log, entryAt}
 use Rattle.rules.specs.Due.{due}
 use Rattle.rules.specs.Moves.{Booth, nobody, noDemand, settle, mayWork, firstTask, work}
-use Rattle.rules.specs.Session.{settledAt, writeRows, count, workedFrom}
+use Rattle.rules.specs.declared.Line.{Line as HeldLine}
+use Rattle.rules.specs.Session.{ownEntries, freshBooth, settledAt, writeRows, count, workedFrom}
 use Rattle.rules.specs.Values.{padded, lineHeld, linesHeld, no-held-line}
-use Rattle.rules.proofs.Held.{length-padded, getD-padded}
+use Rattle.rules.proofs.Held.{length-padded, getD-padded, set-padded}
 use Rattle.laws.proofs.WallRecord.{worked-at, length-worked, length-wall}
 use Rattle.laws.proofs.DueLaws.{due-at-most}
 use Rattle.table.specs.Fit.{Sounds}
@@ -39,7 +40,7 @@ use Rattle.booth.specs.Shown.{AfterSettle, AfterPlay, entriesFrom, waitingAt, f
 use Rattle.booth.proofs.Rows.{agree-later}
 use Rattle.booth.proofs.Demand.{First, first-here, first-taken, eight-none, none-taken, demand-or-none}
 use Rattle.booth.proofs.Waiting.{whole-entry, waiting-sorted, waiting-end, waiting-own}
-use Rattle.session.specs.Running.{entriesOf, nowhere, linesOf, Same, Alike, Set, Running, Ending, Ended}
+use Rattle.session.specs.Running.{entriesOf, nowhere, linesOf, Same, Alike, Set, Running, Ending, Ended, OpenedTo}
 
 -- ---- what a held booth shows
 
@@ -586,3 +587,53 @@ module _ (n H : ℕ) (played : List HeldBooth) (bs own₁ : List ℕ) (i : ℕ) 
       ap (λ m. length (take (i * H) own ++ (part ++ drop m (drop (i * H) own)))) q
       ∙ length-back own part (i * H) H (omega (arith, row-inside i n H less, own-room)) (long ∙ ap (λ m. length (take m (drop (i * H) own))) q ∙ last-part)
       ∙ same
+
+-- ---- the booths opened one after the other, and their clocks noted
+
+pub none-open : (lines : List HeldLine) (bs : List ℕ) (hs : List HeldBooth) → length hs ≡ 8 → OpenedTo 0 lines bs hs
+none-open lines bs hs eight =
+    record {
+      size = eight;
+      fit = λ k l. absurd (not-suc-le-zero l);
+      number = λ k l. absurd (not-suc-le-zero l);
+      line = λ k l. absurd (not-suc-le-zero l);
+      fresh = λ k l. absurd (not-suc-le-zero l);
+    }
+
+waiting-all : (bs : List ℕ) (k : ℕ) → waitingAt bs k 9 ≡ ownEntries k (entriesOf bs)
+unfolding waitingAt entriesOf
+waiting-all bs k = refl
+
+pub one-opened : (j : ℕ) (lines : List HeldLine) (bs : List ℕ) (hs : List HeldBooth) → OpenedTo j lines bs hs → j < 8 → (h : HeldBooth) → Fit bs h → h .number ≡ j
+    → h .line ≡ getD lines j no-held-line → ((row : List ℕ) → shown bs h row ≡ freshBooth (lineHeld (getD lines j no-held-line)) (waitingAt bs j 9)) → OpenedTo (j + 1) lines bs (set hs j h)
+one-opened j lines bs hs o room h fit number line fresh =
+    record {
+      size = length-set hs j h ∙ o .size;
+      fit = λ k l. at-set hs j k h nowhere (Fit bs) inside (λ e. fit) (λ e. o .fit k (omega arith));
+      number = λ k l. at-set hs j k h nowhere (λ x. x .number ≡ k) inside (λ e. number ∙ sym e) (λ e. o .number k (omega arith));
+      line = λ k l. at-set hs j k h nowhere (λ x. x .line ≡ getD lines k no-held-line) inside (λ e. line ∙ ap (λ i. getD lines i no-held-line) (sym e)) (λ e. o .line k (omega arith));
+      fresh = λ k l.
+        at-set hs j k h nowhere (λ x. (row : List ℕ) → shown bs x row ≡ freshBooth (lineHeld (getD lines k no-held-line)) (ownEntries k (entriesOf bs))) inside
+        (λ e row. fresh row ∙ ap (freshBooth (lineHeld (getD lines j no-held-line))) (waiting-all bs j) ∙ ap (λ i. freshBooth (lineHeld (getD lines i no-held-line)) (ownEntries i (entriesOf bs))) (sym e))
+        (λ e. o .fresh k (omega arith));
+    }
+  where
+    inside : j < length hs
+    inside = omega (arith, o .size)
+
+pub one-clock : (hs : List HeldBooth) (i : ℕ) (clocks : List ℕ) → clocks ≡ padded 8 0 (map (λ h. h .clock .0) (take i hs)) → i < 8 → length hs ≡ 8
+    → set clocks i ((getD hs i nowhere) .clock .0) ≡ padded 8 0 (map (λ h. h .clock .0) (take (i + 1) hs))
+one-clock hs i clocks is few eight =
+    let noted = map (λ h. h .clock .0) (take i hs) in
+    let size : length noted ≡ i = length-map (take i hs) (λ h. h .clock .0) ∙ length-take-le i hs (omega (arith, eight)) in
+    ap (λ xs. set xs i ((getD hs i nowhere) .clock .0)) is
+    ∙ ap (λ k. set (padded 8 0 noted) k ((getD hs i nowhere) .clock .0)) (sym size)
+    ∙ set-padded 8 0 noted ((getD hs i nowhere) .clock .0) (omega arith)
+    ∙ ap (padded 8 0) (sym (more hs i (omega (arith, eight))))
+  where
+    map-more : (xs : List HeldBooth) (x : HeldBooth) → map (λ h. h .clock .0) (xs ++ (x ∷ [])) ≡ map (λ h. h .clock .0) xs ++ (x .clock .0 ∷ [])
+    map-more [] x = refl
+    map-more (y ∷ xs) x = ap (λ r. y .clock .0 ∷ r) (map-more xs x)
+
+    more : (hs : List HeldBooth) (i : ℕ) → i < length hs → map (λ h. h .clock .0) (take (i + 1) hs) ≡ map (λ h. h .clock .0) (take i hs) ++ ((getD hs i nowhere) .clock .0 ∷ [])
+    more hs i l = ap (λ k. map (λ h. h .clock .0) (take k hs)) (add-one i) ∙ ap (map (λ h. h .clock .0)) (take-suc hs i nowhere l) ∙ map-more (take i hs) (getD hs i nowhere)

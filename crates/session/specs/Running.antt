@@ -3,6 +3,7 @@ use mathlib.Core.Path.{_≡_}
 use mathlib.Core.List.{List, [], _∷_, map}
 use Prim.Native.Nat.{ℕ, _+_, _-_, _*_, _/_, _≤_, _<_}
 use lib.ListN.{length, getD, take, replicate}
+use Rattle.rules.specs.declared.Line.{Line as HeldLine}
 use Rattle.rules.specs.declared.Table.{Table}
 use Rattle.rules.specs.BoothTable.{Line}
 use Rattle.rules.specs.ArrivalLog.{Entry, Log, entryAt}
@@ -78,14 +79,16 @@ pub record Opening (table : Table) (bs : List ℕ) : Type 0 where
   pub log : shows.Log bs
   pub own : (j at : ℕ) → j < table .booths → Place bs at → at < length bs → (entryAt bs at) .booth ≡ j → (entryAt bs at) .task < (getD (table .lines) j no-held-line) .tasks
 
--- every booth as document 01 opens it
-pub record Opened (table : Table) (bs : List ℕ) (hs : List HeldBooth) : Type 0 where
+-- the first j booths as document 01 opens them
+pub record OpenedTo (j : ℕ) (lines : List HeldLine) (bs : List ℕ) (hs : List HeldBooth) : Type 0 where
   pub size : length hs ≡ 8
-  pub fit : (j : ℕ) → j < table .booths → Fit bs (getD hs j nowhere)
-  pub number : (j : ℕ) → j < table .booths → (getD hs j nowhere) .number ≡ j
-  pub line : (j : ℕ) → j < table .booths → (getD hs j nowhere) .line ≡ getD (table .lines) j no-held-line
-  pub fresh : (j : ℕ) → j < table .booths → (row : List ℕ)
-      → shows.shown bs (getD hs j nowhere) row ≡ freshBooth (lineHeld (getD (table .lines) j no-held-line)) (ownEntries j (entriesOf bs))
+  pub fit : (k : ℕ) → k < j → Fit bs (getD hs k nowhere)
+  pub number : (k : ℕ) → k < j → (getD hs k nowhere) .number ≡ k
+  pub line : (k : ℕ) → k < j → (getD hs k nowhere) .line ≡ getD lines k no-held-line
+  pub fresh : (k : ℕ) → k < j → (row : List ℕ) → shows.shown bs (getD hs k nowhere) row ≡ freshBooth (lineHeld (getD lines k no-held-line)) (ownEntries k (entriesOf bs))
+
+abbrev pub Opened : Table → List ℕ → List HeldBooth → Type 0
+Opened table bs hs = OpenedTo (table .booths) (table .lines) bs hs
 
 pub record Ready (n H : ℕ) (start : List HeldBooth) (bs wall own : List ℕ) : Type 0 where
   pub set : Set (linesOf n start) n H bs own

@@ -1,49 +1,57 @@
+-- `session::clocks_of` meets its contract: the first i clocks are noted. Assumes nothing.
+use mathlib.Core.Path.{_≡_, refl, sym, ap, _∙_, subst}
+use mathlib.Core.List.{map}
+use Prim.Native.Nat.{ℕ, _+_, _-_, _≤_, _<_}
+use native.Mathlib.Omega.{arith}
+use borrow.Author.Needs.{needs}
+use lib.ListN.{take}
+use Rattle.rules.specs.Values.{padded}
+use Rattle.session.proofs.Engine.{one-clock}
 use Rattle.session.proofs.clocks_of.Statement.{statement}
 use Rattle.session.proofs.clocks_of.Tie as tie
 use Rattle.session.proofs.clocks_of.Reads as reads
 use Rattle.session.proofs.clocks_of.Lts as lts
 
 abbrev Inv-loop : tie.InvT-loop
-Inv-loop n booths clocks₀ i₀ clocks i = ?
+Inv-loop n booths clocks₀ i₀ clocks i = (i ≤ n) × (clocks ≡ padded 8 0 (map (λ h. h .clock .0) (take i booths)))
 
 abbrev μ-loop : tie.MeasureT-loop
-μ-loop n booths clocks₀ i₀ clocks i = ?
+μ-loop n booths clocks₀ i₀ clocks i = n - i
 
--- src/lib.rt:124:5
 loop-holds : tie.Need-loop-holds Inv-loop μ-loop
-loop-holds c = ?
+unfolding padded
+loop-holds c = (omega arith, refl)
 
--- src/lib.rt:125:17
 mul-b : tie.Need-mul-b Inv-loop μ-loop
-mul-b c = ?
+mul-b c = search needs
 
--- src/lib.rt:125:17
 array-copy-out-b : tie.Need-array-copy-out-b Inv-loop μ-loop
-array-copy-out-b c = ?
+array-copy-out-b c = search needs
 
--- src/lib.rt:126:9
 mul-clocks : tie.Need-mul-clocks Inv-loop μ-loop
-mul-clocks c = ?
+mul-clocks c = search needs
 
--- src/lib.rt:126:9
 array-write-clocks : tie.Need-array-write-clocks Inv-loop μ-loop
-array-write-clocks c = ?
+array-write-clocks c = search needs
 
--- src/lib.rt:127:9
 add-i : tie.Need-add-i Inv-loop μ-loop
-add-i c = ?
+add-i c = search needs
 
--- src/lib.rt:124:5
 loop-less : tie.Need-loop-less Inv-loop μ-loop
-loop-less c = ?
+loop-less c = search needs
 
--- src/lib.rt:124:5
 loop-again : tie.Need-loop-again Inv-loop μ-loop
-loop-again c = ?
+loop-again c =
+    let start = c .before .before .before in
+    let l = c .before .before .loop in
+    (omega arith, one-clock (start .args .t1) (l .i) (l .clocks) (l .inv .1) (omega (arith, start .pre .0)) (start .pre .1))
 
--- src/lib.rt:118:1
 returns : tie.Need-returns Inv-loop μ-loop
-returns c = ?
+returns c =
+    let start = c .before .before in
+    let l = c .before .loop in
+    let all : l .i ≡ start .args .n = omega arith in
+    l .inv .1 ∙ ap (λ k. padded 8 0 (map (λ h. h .clock .0) (take k (start .args .t1)))) all
 
 pub clocks-of-spec : {M : Type 1} → statement M
 clocks-of-spec =

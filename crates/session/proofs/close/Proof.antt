@@ -1,3 +1,11 @@
+-- `session::close` meets its contract: the booths before i are settled at H. Assumes nothing.
+use mathlib.Core.Path.{_≡_, refl, sym, ap, _∙_, subst}
+use Prim.Native.Nat.{ℕ, _+_, _*_, _-_, _≤_, _<_}
+use native.Mathlib.Omega.{arith}
+use borrow.Author.Needs.{needs}
+use lib.ListN.{length}
+use Rattle.session.specs.Running.{Ending, Ended}
+use Rattle.session.proofs.Engine.{row-inside, last-asks, last-step, last-length}
 use Rattle.session.proofs.close.Statement.{statement}
 use Rattle.session.proofs.close.Tie as tie
 use Rattle.session.proofs.close.Reads as reads
@@ -5,78 +13,79 @@ use Rattle.session.proofs.close.Lts as lts
 use Rattle.booth.proofs.Booth.settle.Reads as settle-reads
 
 abbrev Inv-loop : tie.InvT-loop
-Inv-loop n log own₀ h booths₀ i₀ own booths i = ?
+Inv-loop n log own₀ h booths₀ i₀ own booths i =
+    (i ≤ n) × (length own ≡ length own₀) × ((e : Ended n h booths₀ log own₀) → Ending (e .lines) h log (e .wall₀) (e .own₀) i booths own)
 
 abbrev μ-loop : tie.MeasureT-loop
-μ-loop n log own₀ h booths₀ i₀ own booths i = ?
+μ-loop n log own₀ h booths₀ i₀ own booths i = n - i
 
--- src/lib.rt:107:5
 loop-holds : tie.Need-loop-holds Inv-loop μ-loop
-loop-holds c = ?
+loop-holds c = (omega arith, refl, λ e. e .ending)
 
--- src/lib.rt:108:17
 mul-a : tie.Need-mul-a Inv-loop μ-loop
-mul-a c = ?
+mul-a c = omega (arith, row-inside (c .before .loop .i) (c .before .before .before .before .args .n) (c .before .before .before .before .args .h) (c .loop-test .taken), c .before .before .before .before .pre .set .room, c .before .before .before .before .pre .same-length, c .before .loop .inv .1)
 
--- src/lib.rt:109:31
 add-row : tie.Need-add-row Inv-loop μ-loop
-add-row c = ?
+add-row c = omega (arith, row-inside (c .before .loop .i) (c .before .before .before .before .args .n) (c .before .before .before .before .args .h) (c .loop-test .taken), c .before .before .before .before .pre .set .room, c .before .before .before .before .pre .same-length, c .before .loop .inv .1)
 
--- src/lib.rt:109:19
 sub-row : tie.Need-sub-row Inv-loop μ-loop
-sub-row c = ?
+sub-row c = search needs
 
--- src/lib.rt:109:19
 part-row-start : tie.Need-part-row-start Inv-loop μ-loop
-part-row-start c = ?
+part-row-start c = search needs
 
--- src/lib.rt:109:19
 part-row-end : tie.Need-part-row-end Inv-loop μ-loop
-part-row-end c = ?
+part-row-end c = omega (arith, row-inside (c .before .loop .i) (c .before .before .before .before .args .n) (c .before .before .before .before .args .h) (c .loop-test .taken), c .before .before .before .before .pre .set .room, c .before .before .before .before .pre .same-length, c .before .loop .inv .1)
 
--- src/lib.rt:110:23
 mul-settle : tie.Need-mul-settle Inv-loop μ-loop
-mul-settle c = ?
+mul-settle c = omega (arith, c .before .before .before .before .before .pre .set .few)
 
--- src/lib.rt:110:23
 array-copy-out-settle : tie.Need-array-copy-out-settle Inv-loop μ-loop
-array-copy-out-settle c = ?
+array-copy-out-settle c = omega (arith, c .before .before .before .before .before .pre .set .few)
 
--- src/lib.rt:110:59
 cast-t21 : tie.Need-cast-t21 Inv-loop μ-loop
-cast-t21 c = ?
+cast-t21 c = omega (arith, c .before .before .before .before .before .before .pre .set .ticks)
 
--- src/lib.rt:110:13
 settle-requires : tie.Need-settle-requires Inv-loop μ-loop
-settle-requires c κs = ?
+settle-requires c κs =
+    let start = c .before .before .before .before .before .before in
+    let l = c .before .before .before .loop in
+    last-asks (start .args .n) (start .args .h) (start .args .played) (start .args .log .now) (start .args .own .now) (l .i) (l .booths) (l .own) (start .pre) (l .inv .2 (start .pre))
+    (c .before .before .loop-test .taken) (l .inv .1) (l .i * start .args .h + start .args .h - l .i * start .args .h) (omega arith)
 
--- src/lib.rt:111:9
 mul-booths : tie.Need-mul-booths Inv-loop μ-loop
-mul-booths c = ?
+mul-booths c = omega (arith, c .before .before .before .before .before .before .before .before .before .pre .set .few, c .before .before .before .before .before .loop-test .taken)
 
--- src/lib.rt:111:9
 array-set-from-booths : tie.Need-array-set-from-booths Inv-loop μ-loop
-array-set-from-booths c = ?
+array-set-from-booths c = omega (arith, c .before .before .before .before .before .before .before .before .before .pre .set .few, c .before .before .before .before .before .loop-test .taken)
 
--- src/lib.rt:112:9
 add-i : tie.Need-add-i Inv-loop μ-loop
-add-i c = ?
+add-i c = omega (arith, c .before .before .before .before .before .before .before .before .before .pre .set .few, c .before .before .before .before .before .loop-test .taken)
 
--- src/lib.rt:107:5
 loop-less : tie.Need-loop-less Inv-loop μ-loop
-loop-less c = ?
+loop-less c = omega (arith, c .before .before .before .before .before .before .before .before .before .pre .set .few, c .before .before .before .before .before .loop-test .taken)
 
--- src/lib.rt:107:5
 loop-again : tie.Need-loop-again Inv-loop μ-loop
-loop-again c = ?
+loop-again c =
+    let start = c .before .before .before .before .before .before .before .before .before in
+    let l = c .before .before .before .before .before .before .loop in
+    let s = c .before .before .settle in
+    let w = l .i * start .args .h + start .args .h - l .i * start .args .h in
+    (omega (arith, c .before .before .before .before .before .loop-test .taken),
+    last-length (start .args .n) (start .args .h) (start .args .played) (start .args .log .now) (start .args .own .now) (l .i) (l .booths) (l .own) (start .pre) (l .inv .2 (start .pre))
+    (c .before .before .before .before .before .loop-test .taken) (l .inv .1) w (omega arith) (s .last .1 .1 .0) (s .kept .1 .1 .0),
+    λ e. last-step (start .args .n) (start .args .h) (start .args .played) (start .args .log .now) (start .args .own .now) (l .i) (l .booths) (l .own) e (l .inv .2 e)
+    (c .before .before .before .before .before .loop-test .taken) (l .inv .1) w (omega arith) (s .result) (s .last .1 .1 .0) (s .ensures .0) (s .ensures .1 .0) (s .ensures .1 .1) (s .kept .1 .1 .0))
 
--- src/lib.rt:101:1
 same-length : tie.Need-same-length Inv-loop μ-loop
-same-length c = ?
+same-length c = search needs
 
--- src/lib.rt:101:1
 returns : tie.Need-returns Inv-loop μ-loop
-returns c = ?
+returns c =
+    let start = c .before .before .before .before in
+    let l = c .before .loop in
+    let all : l .i ≡ start .args .n = omega arith in
+    λ e. subst (λ k. Ending (e .lines) (start .args .h) (start .args .log .now) (e .wall₀) (e .own₀) k (l .booths) (l .own)) all (l .inv .2 e)
 
 pub close-spec : {M : Type 1} → statement M
 close-spec =

@@ -1,11 +1,16 @@
+-- `session::nothing_done` meets its contract. Assumes nothing.
+use mathlib.Core.Path.{refl}
+use Rattle.rules.specs.Refusals.{refusedAs}
+use Rattle.rules.specs.Values.{padded}
+use Rattle.session.specs.Answer.{nothingAnswered}
 use Rattle.session.proofs.nothing_done.Statement.{statement}
 use Rattle.session.proofs.nothing_done.Tie as tie
 use Rattle.session.proofs.nothing_done.Reads as reads
 use Rattle.session.proofs.nothing_done.Lts as lts
 
--- src/lib.rt:162:1
 returns : tie.Need-returns
-returns c = ?
+unfolding nothingAnswered refusedAs padded
+returns c = refl
 
 pub nothing-done-spec : {M : Type 1} → statement M
 nothing-done-spec = tie.close (tie.spec returns)

@@ -1,3 +1,10 @@
+-- `session::open_all` meets its contract: the first j booths are open. Assumes nothing.
+use mathlib.Core.Path.{_≡_, refl, sym, ap, _∙_, subst}
+use Prim.Native.Nat.{ℕ, _+_, _-_, _≤_, _<_}
+use native.Mathlib.Omega.{arith}
+use borrow.Author.Needs.{needs}
+use Rattle.session.specs.Running.{OpenedTo}
+use Rattle.session.proofs.Engine.{none-open, one-opened}
 use Rattle.session.proofs.open_all.Statement.{statement}
 use Rattle.session.proofs.open_all.Tie as tie
 use Rattle.session.proofs.open_all.Reads as reads
@@ -6,58 +13,57 @@ use Rattle.booth.proofs.Booth.absent.Reads as absent-reads
 use Rattle.booth.proofs.Booth.open.Reads as open-reads
 
 abbrev Inv-loop : tie.InvT-loop
-Inv-loop log lines n booths₀ j₀ booths j = ?
+Inv-loop log lines n booths₀ j₀ booths j = (j ≤ n) × OpenedTo j lines log booths
 
 abbrev μ-loop : tie.MeasureT-loop
-μ-loop log lines n booths₀ j₀ booths j = ?
+μ-loop log lines n booths₀ j₀ booths j = n - j
 
--- src/lib.rt:42:23
 absent-requires : tie.Need-absent-requires Inv-loop μ-loop
-absent-requires c κs = ?
+absent-requires c κs = search needs
 
--- src/lib.rt:44:5
 loop-holds : tie.Need-loop-holds Inv-loop μ-loop
-loop-holds c = ?
+loop-holds c = (omega arith, none-open _ _ _ refl)
 
--- src/lib.rt:45:20
 mul-line : tie.Need-mul-line Inv-loop μ-loop
-mul-line c = ?
+mul-line c = omega (arith, c .before .before .before .before .before .pre .fit .lines .few)
 
--- src/lib.rt:45:20
 array-copy-out-line : tie.Need-array-copy-out-line Inv-loop μ-loop
-array-copy-out-line c = ?
+array-copy-out-line c = omega (arith, c .before .before .before .before .before .pre .fit .lines .few)
 
--- src/lib.rt:46:33
 cast-open : tie.Need-cast-open Inv-loop μ-loop
-cast-open c = ?
+cast-open c = omega (arith, c .before .before .before .before .before .before .pre .fit .lines .few)
 
--- src/lib.rt:46:21
 open-requires : tie.Need-open-requires Inv-loop μ-loop
-open-requires c κs = ?
+open-requires c κs =
+    let start = c .before .before .before .before .before .before in
+    let j = c .before .before .loop .j in
+    ((start .pre .log, start .pre .fit .lines .line j (omega arith)), λ at p l e. start .pre .own j at (omega arith) p l e)
 
--- src/lib.rt:46:9
 mul-booths : tie.Need-mul-booths Inv-loop μ-loop
-mul-booths c = ?
+mul-booths c = omega (arith, c .before .before .before .before .before .before .before .pre .fit .lines .few)
 
--- src/lib.rt:46:9
 array-set-from-booths : tie.Need-array-set-from-booths Inv-loop μ-loop
-array-set-from-booths c = ?
+array-set-from-booths c = omega (arith, c .before .before .before .before .before .before .before .pre .fit .lines .few)
 
--- src/lib.rt:47:9
 add-j : tie.Need-add-j Inv-loop μ-loop
-add-j c = ?
+add-j c = omega (arith, c .before .before .before .before .before .before .before .pre .fit .lines .few)
 
--- src/lib.rt:44:5
 loop-less : tie.Need-loop-less Inv-loop μ-loop
-loop-less c = ?
+loop-less c = omega (arith, c .before .before .before .before .before .before .before .pre .fit .lines .few)
 
--- src/lib.rt:44:5
 loop-again : tie.Need-loop-again Inv-loop μ-loop
-loop-again c = ?
+loop-again c =
+    let start = c .before .before .before .before .before .before .before in
+    let l = c .before .before .before .loop in
+    let o = c .«open» in
+    (omega arith, one-opened (l .j) (start .args .table .lines) (start .args .log .now) (l .booths) (l .inv .1) (omega (arith, start .pre .fit .lines .few)) (o .result) (o .ensures .0 .0) (o .ensures .0 .1) (o .ensures .0 .2) (o .ensures .1))
 
--- src/lib.rt:36:1
 returns : tie.Need-returns Inv-loop μ-loop
-returns c = ?
+returns c =
+    let start = c .before .before .before .before .before in
+    let l = c .before .loop in
+    let all : l .j ≡ start .args .table .booths = omega arith in
+    subst (λ k. OpenedTo k (start .args .table .lines) (start .args .log .now) (l .booths)) all (l .inv .1)
 
 pub open-all-spec : {M : Type 1} → statement M
 open-all-spec =
