@@ -35,7 +35,7 @@ struct Player {
     left: [u32; 8],
 }
 
-// An entry is released at due of its wall tick; this is the one place where the solo part turns the one into the other.
+// An entry is released at due of its wall tick, which is converted here and nowhere again.
 fn release_point(line: Line, entry: Entry) -> OwnTick
     requires { ⌜ Sounds (line .promise) ⌝ }
     ensures { λ r. ⌜ r .0 ≡ due (line .promise) (entry .tick .0) ⌝ }
@@ -56,7 +56,7 @@ fn point_of(log: &[u8], line: Line, i: usize) -> OwnTick
     release_point(line, entry)
 }
 
-// The first task with something left to play.
+// The first task with something left to play; nobody, with none.
 fn first_left(left: [u32; 8], tasks: usize) -> usize
     requires { ⌜ tasks ≤ 8 ⌝ }
     ensures { λ r. ⌜ r ≡ page.firstThat (λ k. ltb 0 (getD left k 0)) tasks 0 ⌝ }
