@@ -53,15 +53,17 @@ same-shown bs h b part s r =
     ∙ ap (λ x. record { line = b .line; u = b .u; left = b .left; waiting = x; row = take (h .clock .0) part }) (sym (s .waiting))
     ∙ ap (λ x. record { line = b .line; u = b .u; left = b .left; waiting = b .waiting; row = x }) (sym r)
 
-shown-same : (bs : List ℕ) (h : HeldBooth) (b : Booth) (part : List ℕ) → shown bs h part ≡ b → Same bs h b × (b .row ≡ take (h .clock .0) part)
+pub shown-same : (bs : List ℕ) (h : HeldBooth) (b : Booth) (part : List ℕ) → shown bs h part ≡ b → Same bs h b × (b .row ≡ take (h .clock .0) part)
 unfolding shown
-shown-same bs h b part e =
-    (record {
-      line = sym (ap (λ x. x .line) e);
-      clock = sym (ap (λ x. x .u) e);
-      left = sym (ap (λ x. x .left) e);
-      waiting = sym (ap (λ x. x .waiting) e);
-    }, sym (ap (λ x. x .row) e))
+shown-same bs h b part e = (
+  record {
+    line = sym (ap (λ x. x .line) e);
+    clock = sym (ap (λ x. x .u) e);
+    left = sym (ap (λ x. x .left) e);
+    waiting = sym (ap (λ x. x .waiting) e);
+  },
+  sym (ap (λ x. x .row) e),
+)
 
 -- the part of the own record that a move leaves: the booth's row, then what it held
 part-is : (bs : List ℕ) (h : HeldBooth) (b : Booth) (part old : List ℕ) → shown bs h part ≡ b → drop (h .clock .0) part ≡ drop (h .clock .0) old → h .clock .0 ≤ length part
@@ -207,13 +209,13 @@ module _ (ls : List Line) (H : ℕ) (bs wall₀ own₀ : List ℕ) (as-read : As
           record {
             booths = set (r .booths) i (shown bs h part);
             course =
-              passed-over ls (entriesOf bs) as-read H wall₀ own₀ wall-room own-room t i (r .booths) wakes worked idle wall own (r .course) there le
-              (omega (arith, r .wakes-eight)) (shown bs h part) settled (in-vain t (shown bs h part) answer) (wakesAt h)
-              (λ s u v. asleep bs h (shown bs h part) t fit ((shown-same bs h (shown bs h part) part refl) .0) settled-order s u v) part
-              (part-is bs h (shown bs h part) part (take H (drop (i * H) own)) refl rest (omega (arith, long)));
+                passed-over ls (entriesOf bs) as-read H wall₀ own₀ wall-room own-room t i (r .booths) wakes worked idle wall own (r .course) there le
+                (omega (arith, r .wakes-eight)) (shown bs h part) settled (in-vain t (shown bs h part) answer) (wakesAt h)
+                (λ s u v. asleep bs h (shown bs h part) t fit ((shown-same bs h (shown bs h part) part refl) .0) settled-order s u v) part
+                (part-is bs h (shown bs h part) part (take H (drop (i * H) own)) refl rest (omega (arith, long)));
             alike =
-              alike-set bs (length ls) i hs (r .booths) h (shown bs h part) (r .alike) (omega (arith, r .course .few)) few there fit number
-              ((shown-same bs h (shown bs h part) part refl) .0);
+                alike-set bs (length ls) i hs (r .booths) h (shown bs h part) (r .alike) (omega (arith, r .course .few)) few there fit number
+                ((shown-same bs h (shown bs h part) part refl) .0);
             wakes-eight = length-set wakes i (wakesAt h) ∙ r .wakes-eight;
             worked-eight = r .worked-eight;
             others = r .others;
@@ -235,10 +237,10 @@ module _ (ls : List Line) (H : ℕ) (bs wall₀ own₀ : List ℕ) (as-read : As
           record {
             booths = set (r .booths) i (work (shown bs h part));
             course =
-              plays ls (entriesOf bs) as-read H wall₀ own₀ wall-room own-room t i (r .booths) wakes worked idle wall own (r .course) there less
-              (omega (arith, r .wakes-eight)) (omega (arith, r .worked-eight)) (shown bs h part) settled may (wakesAt h')
-              (λ s u v. asleep bs h' (work (shown bs h part)) (suc t) fit' same' order' s u v) part'
-              (part-is bs h' (work (shown bs h part)) part' (take H (drop (i * H) own)) state' (rest' ∙ agree-later part (take H (drop (i * H) own)) (h .clock .0) (h' .clock .0) grows rest) (omega (arith, long')));
+                plays ls (entriesOf bs) as-read H wall₀ own₀ wall-room own-room t i (r .booths) wakes worked idle wall own (r .course) there less
+                (omega (arith, r .wakes-eight)) (omega (arith, r .worked-eight)) (shown bs h part) settled may (wakesAt h')
+                (λ s u v. asleep bs h' (work (shown bs h part)) (suc t) fit' same' order' s u v) part'
+                (part-is bs h' (work (shown bs h part)) part' (take H (drop (i * H) own)) state' (rest' ∙ agree-later part (take H (drop (i * H) own)) (h .clock .0) (h' .clock .0) grows rest) (omega (arith, long')));
             alike = alike-set bs (length ls) i hs (r .booths) h' (work (shown bs h part)) (r .alike) (omega (arith, r .course .few)) few there fit' number' same';
             wakes-eight = length-set wakes i (wakesAt h') ∙ r .wakes-eight;
             worked-eight = length-set worked i (suc (getD worked i 0)) ∙ r .worked-eight;
@@ -268,11 +270,11 @@ module _ (ls : List Line) (H : ℕ) (bs wall₀ own₀ : List ℕ) (as-read : As
         record {
           booths = set (e .booths) i (shown bs h part);
           closing =
-            closes-one ls (entriesOf bs) as-read H wall₀ own₀ wall-room own-room i (e .booths) own (e .closing) there (shown bs h part) (state ∙ ap (settle H) ending-part) part
-            (part-is bs h (shown bs h part) part (take H (drop (i * H) own)) refl rest (omega (arith, long)));
+              closes-one ls (entriesOf bs) as-read H wall₀ own₀ wall-room own-room i (e .booths) own (e .closing) there (shown bs h part) (state ∙ ap (settle H) ending-part) part
+              (part-is bs h (shown bs h part) part (take H (drop (i * H) own)) refl rest (omega (arith, long)));
           alike =
-            alike-set bs (length ls) i hs (e .booths) h (shown bs h part) (e .alike) (omega (arith, e .closing .few)) few there fit number
-            ((shown-same bs h (shown bs h part) part refl) .0);
+              alike-set bs (length ls) i hs (e .booths) h (shown bs h part) (e .alike) (omega (arith, e .closing .few)) few there fit number
+              ((shown-same bs h (shown bs h part) part refl) .0);
         }
 
 -- ---- what is answered
@@ -289,11 +291,11 @@ clocks-are bs n hs booths a few size =
     ext-getD 0 (map (λ h. h .clock .0) (take n hs)) (map (λ b. b .u) booths)
     (length-map (take n hs) (λ h. h .clock .0) ∙ short ∙ sym (length-map booths (λ b. b .u) ∙ size))
     (λ j l.
-      let there : j < n = omega (arith, length-map (take n hs) (λ h. h .clock .0), short) in
-      map-at (λ h. h .clock .0) (take n hs) j nowhere (omega arith)
-      ∙ ap (λ h. h .clock .0) (getD-take n hs j nowhere there)
-      ∙ sym ((a .same j there) .clock)
-      ∙ sym (map-at (λ b. b .u) booths j nobooth (omega (arith, size))))
+    let there : j < n = omega (arith, length-map (take n hs) (λ h. h .clock .0), short) in
+    map-at (λ h. h .clock .0) (take n hs) j nowhere (omega arith)
+    ∙ ap (λ h. h .clock .0) (getD-take n hs j nowhere there)
+    ∙ sym ((a .same j there) .clock)
+    ∙ sym (map-at (λ b. b .u) booths j nobooth (omega (arith, size))))
 
 padded-past : (xs : List ℕ) (n j : ℕ) → length xs ≤ j → getD (padded n 0 xs) j 0 ≡ 0
 unfolding padded
@@ -386,9 +388,9 @@ module _ (n H : ℕ) (start : List HeldBooth) (bs wall₀ own₀ : List ℕ) (t 
         own-length = g .own-length;
         set = g .set;
         running =
-          subst (λ s. Running (linesOf n start) H bs wall₀ own₀ s 0 hs wakes worked (idle + 1) (set wall t 255) own) (sym (add-one t))
-          (subst (λ k. Running (linesOf n start) H bs wall₀ own₀ (suc t) 0 hs wakes worked k (set wall t 255) own) (sym (add-one idle))
-          (run-nobody (linesOf n start) H bs wall₀ own₀ (g .set .as-read) few lent room t i hs wakes worked idle wall own r (all ∙ sym (g .set .count)) h));
+            subst (λ s. Running (linesOf n start) H bs wall₀ own₀ s 0 hs wakes worked (idle + 1) (set wall t 255) own) (sym (add-one t))
+            (subst (λ k. Running (linesOf n start) H bs wall₀ own₀ (suc t) 0 hs wakes worked k (set wall t 255) own) (sym (add-one idle))
+            (run-nobody (linesOf n start) H bs wall₀ own₀ (g .set .as-read) few lent room t i hs wakes worked idle wall own r (all ∙ sym (g .set .count)) h));
         idle-small = omega (arith, g .idle-small);
       }
 
@@ -408,8 +410,8 @@ module _ (n H : ℕ) (start : List HeldBooth) (bs wall₀ own₀ : List ℕ) (t 
         own-length = g .own-length;
         set = g .set;
         running =
-          subst (λ s. Running (linesOf n start) H bs wall₀ own₀ t s hs wakes worked idle wall own) (sym (add-one i))
-          (run-sleeps (linesOf n start) H bs wall₀ own₀ (g .set .as-read) few lent room t i hs wakes worked idle wall own r (there e) h);
+            subst (λ s. Running (linesOf n start) H bs wall₀ own₀ t s hs wakes worked idle wall own) (sym (add-one i))
+            (run-sleeps (linesOf n start) H bs wall₀ own₀ (g .set .as-read) few lent room t i hs wakes worked idle wall own r (there e) h);
         idle-small = g .idle-small;
       }
 
@@ -480,9 +482,9 @@ module _ (n H : ℕ) (start : List HeldBooth) (bs wall₀ own₀ : List ℕ) (t 
           own-length = length-back own part (i * H) H inside long' ∙ g .own-length;
           set = g .set;
           running =
-            subst (λ s. Running (linesOf n start) H bs wall₀ own₀ t s (set hs i h) (set wakes i (wakesAt h)) worked idle wall (back part)) (sym (add-one i))
-            (run-passed (linesOf n start) H bs wall₀ own₀ (g .set .as-read) few lent room t i hs wakes worked idle wall own r (there e) h part (after .fit) (after .line) number long' state' rest'
-            (g .early) (omega (arith, clock-short)) answer);
+              subst (λ s. Running (linesOf n start) H bs wall₀ own₀ t s (set hs i h) (set wakes i (wakesAt h)) worked idle wall (back part)) (sym (add-one i))
+              (run-passed (linesOf n start) H bs wall₀ own₀ (g .set .as-read) few lent room t i hs wakes worked idle wall own r (there e) h part (after .fit) (after .line) number long' state' rest'
+              (g .early) (omega (arith, clock-short)) answer);
           idle-small = g .idle-small;
         })
 
@@ -505,10 +507,10 @@ module _ (n H : ℕ) (start : List HeldBooth) (bs wall₀ own₀ : List ℕ) (t 
           own-length = length-back own part' (i * H) H inside same-long ∙ g .own-length;
           set = g .set;
           running =
-            subst (λ s. Running (linesOf n start) H bs wall₀ own₀ s 0 (set hs i h') (set wakes i (wakesAt h')) (set worked i (getD worked i 0 + 1)) idle (set wall t i) (back part')) (sym (add-one t))
-            (subst (λ m. Running (linesOf n start) H bs wall₀ own₀ (suc t) 0 (set hs i h') (set wakes i (wakesAt h')) (set worked i m) idle (set wall t i) (back part')) (sym (add-one (getD worked i 0)))
-            (run-plays (linesOf n start) H bs wall₀ own₀ (g .set .as-read) few lent room t i hs wakes worked idle wall own r (there e) h part (after .fit) (after .line) number long' state' rest'
-            less k answer h' part' (after' .fit bs (after .fit)) (after' .number ∙ number) (omega (arith, after' .clock, clock-short)) same-long state″ rest″ (omega (arith, after' .clock))));
+              subst (λ s. Running (linesOf n start) H bs wall₀ own₀ s 0 (set hs i h') (set wakes i (wakesAt h')) (set worked i (getD worked i 0 + 1)) idle (set wall t i) (back part')) (sym (add-one t))
+              (subst (λ m. Running (linesOf n start) H bs wall₀ own₀ (suc t) 0 (set hs i h') (set wakes i (wakesAt h')) (set worked i m) idle (set wall t i) (back part')) (sym (add-one (getD worked i 0)))
+              (run-plays (linesOf n start) H bs wall₀ own₀ (g .set .as-read) few lent room t i hs wakes worked idle wall own r (there e) h part (after .fit) (after .line) number long' state' rest'
+              less k answer h' part' (after' .fit bs (after .fit)) (after' .number ∙ number) (omega (arith, after' .clock, clock-short)) same-long state″ rest″ (omega (arith, after' .clock))));
           idle-small = omega (arith, g .idle-small);
         })
 
@@ -613,9 +615,9 @@ one-opened j lines bs hs o room h fit number line fresh =
       number = λ k l. at-set hs j k h nowhere (λ x. x .number ≡ k) inside (λ e. number ∙ sym e) (λ e. o .number k (omega arith));
       line = λ k l. at-set hs j k h nowhere (λ x. x .line ≡ getD lines k no-held-line) inside (λ e. line ∙ ap (λ i. getD lines i no-held-line) (sym e)) (λ e. o .line k (omega arith));
       fresh = λ k l.
-        at-set hs j k h nowhere (λ x. (row : List ℕ) → shown bs x row ≡ freshBooth (lineHeld (getD lines k no-held-line)) (ownEntries k (entriesOf bs))) inside
-        (λ e row. fresh row ∙ ap (freshBooth (lineHeld (getD lines j no-held-line))) (waiting-all bs j) ∙ ap (λ i. freshBooth (lineHeld (getD lines i no-held-line)) (ownEntries i (entriesOf bs))) (sym e))
-        (λ e. o .fresh k (omega arith));
+          at-set hs j k h nowhere (λ x. (row : List ℕ) → shown bs x row ≡ freshBooth (lineHeld (getD lines k no-held-line)) (ownEntries k (entriesOf bs))) inside
+          (λ e row. fresh row ∙ ap (freshBooth (lineHeld (getD lines j no-held-line))) (waiting-all bs j) ∙ ap (λ i. freshBooth (lineHeld (getD lines i no-held-line)) (ownEntries i (entriesOf bs))) (sym e))
+          (λ e. o .fresh k (omega arith));
     }
   where
     inside : j < length hs

@@ -1,3 +1,4 @@
 pub mod Engine
 pub mod AcceptedLog
 pub mod ByCases
+pub mod Played

@@ -70,12 +70,13 @@ loop-again c =
     let start = c .before .before .before .before .before .before .before .before .before in
     let l = c .before .before .before .before .before .before .loop in
     let s = c .before .before .settle in
-    let w = l .i * start .args .h + start .args .h - l .i * start .args .h in
-    (omega (arith, c .before .before .before .before .before .loop-test .taken),
-    last-length (start .args .n) (start .args .h) (start .args .played) (start .args .log .now) (start .args .own .now) (l .i) (l .booths) (l .own) (start .pre) (l .inv .2 (start .pre))
-    (c .before .before .before .before .before .loop-test .taken) (l .inv .1) w (omega arith) (s .last .1 .1 .0) (s .kept .1 .1 .0),
-    λ e. last-step (start .args .n) (start .args .h) (start .args .played) (start .args .log .now) (start .args .own .now) (l .i) (l .booths) (l .own) e (l .inv .2 e)
-    (c .before .before .before .before .before .loop-test .taken) (l .inv .1) w (omega arith) (s .result) (s .last .1 .1 .0) (s .ensures .0) (s .ensures .1 .0) (s .ensures .1 .1) (s .kept .1 .1 .0))
+    let w = l .i * start .args .h + start .args .h - l .i * start .args .h in (
+      omega (arith, c .before .before .before .before .before .loop-test .taken),
+      last-length (start .args .n) (start .args .h) (start .args .played) (start .args .log .now) (start .args .own .now) (l .i) (l .booths) (l .own) (start .pre) (l .inv .2 (start .pre))
+          (c .before .before .before .before .before .loop-test .taken) (l .inv .1) w (omega arith) (s .last .1 .1 .0) (s .kept .1 .1 .0),
+      λ e. last-step (start .args .n) (start .args .h) (start .args .played) (start .args .log .now) (start .args .own .now) (l .i) (l .booths) (l .own) e (l .inv .2 e)
+          (c .before .before .before .before .before .loop-test .taken) (l .inv .1) w (omega arith) (s .result) (s .last .1 .1 .0) (s .ensures .0) (s .ensures .1 .0) (s .ensures .1 .1) (s .kept .1 .1 .0),
+    )
 
 same-length : tie.Need-same-length Inv-loop μ-loop
 same-length c = search needs

@@ -216,7 +216,7 @@ returns c =
       asked = l .i;
       wakes = l .wakes;
       running =
-        subst (λ t. Running (linesOf (start .n) (start .start)) (start .h) (start .log .now) (start .wall .now) (start .own .now) t (l .i) (l .booths) (l .wakes) (l .worked) (l .idle) (l .wall) (l .own)) done (l .inv .running);
+          subst (λ t. Running (linesOf (start .n) (start .start)) (start .h) (start .log .now) (start .wall .now) (start .own .now) t (l .i) (l .booths) (l .wakes) (l .worked) (l .idle) (l .wall) (l .own)) done (l .inv .running);
     }
 
 pub run-spec : {M : Type 1} → statement M

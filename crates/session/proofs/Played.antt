@@ -1,0 +1,265 @@
+-- From an accepted table and log to the answer: how the run begins, and what is left when it has ended. Assumes nothing.
+use mathlib.Core.Path.{_≡_, refl, sym, ap, _∙_, subst}
+use mathlib.Core.List.{List, [], _∷_, _++_, map}
+use Prim.Native.Nat.{ℕ, zero, suc, _+_, _-_, _*_, _≤_, _<_}
+use native.Mathlib.Nat.{zero-add}
+use native.Mathlib.Omega.{arith}
+use lib.ListN.{length, getD, take, set, replicate, length-map, length-replicate}
+use lib.Seq.{ext-getD, getD-take, length-take-le}
+use Rattle.rules.specs.declared.Table.{Table}
+use Rattle.rules.specs.declared.Refused.the-variants.{Nothing}
+use Rattle.rules.specs.Bytes.{written}
+use Rattle.rules.specs.Refusals.{refusal, accepted}
+use Rattle.rules.specs.BoothTable.{Line, no-line}
+use Rattle.rules.specs.ArrivalLog.{Entry, Log}
+use Rattle.rules.specs.Moves.{Booth, nobody}
+use Rattle.rules.specs.Session.{ownEntries, freshBooth, openBooths, settledAt, count, workedFrom, writeRows, played}
+use Rattle.rules.specs.Values.{padded, lineHeld, linesHeld, no-held-line}
+use Rattle.table.proofs.Test.{held-at, held-length}
+use Rattle.laws.proofs.Run.{AsRead, open-at, length-booths}
+use Rattle.laws.proofs.Course.{nobooth, Course, Closing, begins, closes, closed}
+use Rattle.booth.specs.declared.Booth.{Booth as HeldBooth}
+use Rattle.booth.specs.Shown.{shown}
+use Rattle.rules.specs.declared.Verdict.{Verdict}
+use Rattle.rules.specs.Refusals.{taken}
+use Rattle.rules.specs.ArrivalLog.{readLog}
+use Rattle.rules.specs.Admission.{readTable}
+use Rattle.rules.specs.Session.{Outcome, nothingDone, session}
+use Rattle.rules.proofs.Held.{lines-held}
+use Rattle.table.specs.declared.TableAnswer.{TableAnswer}
+use Rattle.table.specs.Fit.{FitTable}
+use Rattle.table.proofs.Numbers.{TableTaken}
+use Rattle.arrivals.proofs.Entries.{Accepted, accepted as accepted-log}
+use Rattle.laws.specs.Statements.{Accepted as Session}
+use Rattle.laws.proofs.Answered.{answers, as-read as read-as, log-is-read}
+use Rattle.laws.proofs.Entries.{Sorted}
+use Rattle.session.specs.Answer.{nothingAnswered}
+use Rattle.session.proofs.AcceptedLog.{entries-are, log-fits, task-fits}
+use Rattle.session.proofs.ByCases.{plays}
+use Rattle.session.specs.declared.SessionAnswer.{SessionAnswer}
+use Rattle.session.specs.declared.Stage.{Stage}
+use Rattle.session.specs.Answer.{answered}
+use Rattle.session.specs.Running.{entriesOf, logOf, nowhere, linesOf, Same, Alike, Set, Running, OpenedTo, Ready, Ran, Ending, Ended, Playable}
+use Rattle.session.proofs.Engine.{shown-same, clocks-are, worked-are}
+
+-- an accepted answer with these figures
+abbrev pub made : ℕ → List ℕ → List ℕ → ℕ → SessionAnswer
+made n clocks worked idle = record { verdict = record { refused = Nothing; refusal = record { number = 0; place = 0 } }; booths = n; clocks = clocks; worked = worked; idle = idle }
+
+made-same : {n m : ℕ} {c d w v : List ℕ} {i j : ℕ} → n ≡ m → c ≡ d → w ≡ v → i ≡ j → made n c w i ≡ made m d v j
+made-same {n} {m} {c} {d} {w} {v} {i} {j} p q r s = ap (λ x. made x c w i) p ∙ ap (λ x. made m x w i) q ∙ ap (λ x. made m d x i) r ∙ ap (λ x. made m d v x) s
+
+map-held : (f : HeldBooth → Line) (xs : List HeldBooth) (j : ℕ) (d : Line) → j < length xs → getD (map f xs) j d ≡ f (getD xs j nowhere)
+map-held f [] j d h = absurd (native.Mathlib.Nat.not-suc-le-zero h)
+map-held f (x ∷ xs) zero d h = refl
+map-held f (x ∷ xs) (suc j) d h = map-held f xs j d (native.Mathlib.Nat.le-of-suc-le-suc h)
+
+module _ (table : Table) (bs wall own : List ℕ) (H : ℕ) (p : Playable table bs wall own H) (hs : List HeldBooth) (o : OpenedTo (table .booths) (table .lines) bs hs) where
+  n : ℕ
+  n = table .booths
+
+  few : table .booths ≤ 8
+  few = p .opening .fit .lines .few
+
+  lines-short : length (linesHeld table) ≡ table .booths
+  unfolding linesHeld
+  lines-short = held-length (table .lines) (table .booths) (omega (arith, p .opening .fit .lines .eight, p .opening .fit .lines .few))
+
+  line-at : (j : ℕ) → j < table .booths → getD (linesHeld table) j no-line ≡ lineHeld (getD (table .lines) j no-held-line)
+  unfolding linesHeld lineHeld no-line
+  line-at j h = held-at (table .lines) (table .booths) j h
+
+  -- the lines that the booths hold are the table's
+  pub lines-are : linesOf (table .booths) hs ≡ linesHeld table
+  unfolding linesOf
+  lines-are =
+      let size : length (take (table .booths) hs) ≡ table .booths = length-take-le (table .booths) hs (omega (arith, o .size, few)) in
+      let long : length (map (λ h. lineHeld (h .line)) (take (table .booths) hs)) ≡ table .booths = length-map (take (table .booths) hs) (λ h. lineHeld (h .line)) ∙ size in
+      ext-getD no-line (map (λ h. lineHeld (h .line)) (take (table .booths) hs)) (linesHeld table) (long ∙ sym lines-short)
+      (λ j l.
+      let there : j < table .booths = omega arith in
+      map-held (λ h. lineHeld (h .line)) (take (table .booths) hs) j no-line (omega arith)
+      ∙ ap (λ h. lineHeld (h .line)) (getD-take (table .booths) hs j nowhere there)
+      ∙ ap lineHeld (o .line j there)
+      ∙ sym (line-at j there))
+
+  pub as-read : AsRead (linesOf (table .booths) hs) (entriesOf bs)
+  as-read = subst (λ ls. AsRead ls (entriesOf bs)) (sym lines-are) (p .as-read)
+
+  counted : length (linesOf (table .booths) hs) ≡ table .booths
+  counted = ap length lines-are ∙ lines-short
+
+  pub room : length (linesOf (table .booths) hs) * H ≤ length own
+  room = omega (arith, ap (λ m. m * H) counted, p .own-room)
+
+  pub ready : Ready (table .booths) H hs bs wall own
+  ready =
+      record {
+        set = record { count = counted; few = few; ticks = p .ticks; log = p .opening .log; room = p .own-room; as-read = as-read };
+        wall-room = p .wall-room;
+        running = record {
+          booths = openBooths 0 (linesOf (table .booths) hs) (entriesOf bs);
+          course = begins (linesOf (table .booths) hs) (entriesOf bs) as-read H wall own (p .wall-room) room;
+          alike = record {
+            size = o .size;
+            fit = λ j l. o .fit j (omega (arith, counted));
+            number = λ j l. o .number j (omega (arith, counted));
+            same = λ j l. same j (omega (arith, counted));
+          };
+          wakes-eight = refl;
+          worked-eight = refl;
+          others = λ j l. zeros 8 j;
+        };
+      }
+    where
+      zeros : (m k : ℕ) → getD {A = ℕ} (replicate m 0) k 0 ≡ 0
+      zeros zero k = refl
+      zeros (suc m) zero = refl
+      zeros (suc m) (suc k) = zeros m k
+
+      opens : (j : ℕ) → j < table .booths
+          → getD (openBooths 0 (linesOf (table .booths) hs) (entriesOf bs)) j nobooth ≡ freshBooth (lineHeld (getD (table .lines) j no-held-line)) (ownEntries j (entriesOf bs))
+      opens j l =
+          open-at 0 (linesOf (table .booths) hs) (entriesOf bs) j (omega (arith, counted))
+          ∙ ap (λ k. freshBooth (getD (linesOf (table .booths) hs) j no-line) (ownEntries k (entriesOf bs))) (zero-add j)
+          ∙ ap (λ ls. freshBooth (getD ls j no-line) (ownEntries j (entriesOf bs))) lines-are
+          ∙ ap (λ x. freshBooth x (ownEntries j (entriesOf bs))) (line-at j l)
+
+      same : (j : ℕ) → j < table .booths → Same bs (getD hs j nowhere) (getD (openBooths 0 (linesOf (table .booths) hs) (entriesOf bs)) j nobooth)
+      same j l = (shown-same bs (getD hs j nowhere) _ [] (o .fresh j l [] ∙ sym (opens j l))) .0
+
+  module _ (s : Stage) (wall₁ own₁ : List ℕ) (ran : Ran (table .booths) H hs bs wall own s wall₁ own₁) (kept : length own₁ ≡ length own) where
+    abbrev running : Running (linesOf (table .booths) hs) H bs wall own H (ran .asked) (s .booths) (ran .wakes) (s .worked) (s .idle) wall₁ own₁
+    running = ran .running
+
+    abbrev pub ended : Ended (table .booths) H (s .booths) bs own₁
+    ended =
+        record {
+          lines = linesOf (table .booths) hs;
+          wall₀ = wall;
+          own₀ = own;
+          set = ready .set;
+          wall-room = p .wall-room;
+          same-length = kept;
+          ending = record {
+            booths = running .booths;
+            closing =
+                closes (linesOf (table .booths) hs) (entriesOf bs) as-read H wall own (p .wall-room) room (ran .asked) (running .booths) (ran .wakes) (s .worked) (s .idle) wall₁ own₁ (running .course);
+            alike = running .alike;
+          };
+        }
+
+    module _ (last : List HeldBooth) (own₂ clocks : List ℕ) (e : Ending (linesOf (table .booths) hs) H bs wall own (table .booths) last own₂)
+        (noted : clocks ≡ padded 8 0 (map (λ h. h .clock .0) (take (table .booths) last))) where
+      final : e .booths ≡ (settledAt H (linesHeld table) (entriesOf bs)) .booths
+      final =
+          closed (linesOf (table .booths) hs) (entriesOf bs) as-read H wall own (p .wall-room) room (table .booths) (e .booths) own₂ (e .closing) (sym counted)
+          ∙ ap (λ ls. (settledAt H ls (entriesOf bs)) .booths) lines-are
+
+      size : length (e .booths) ≡ table .booths
+      size = e .closing .few ∙ counted
+
+      clocks-is : clocks ≡ padded 8 0 (map (λ b. b .u) ((settledAt H (linesHeld table) (entriesOf bs)) .booths))
+      clocks-is =
+          noted
+          ∙ ap (padded 8 0) (clocks-are bs (table .booths) last (e .booths) (subst (λ m. Alike bs m last (e .booths)) counted (e .alike)) few size)
+          ∙ ap (λ x. padded 8 0 (map (λ b. b .u) x)) final
+
+      wall-same : (settledAt H (linesOf (table .booths) hs) (entriesOf bs)) .wall ≡ (settledAt H (linesHeld table) (entriesOf bs)) .wall
+      wall-same = ap (λ ls. (settledAt H ls (entriesOf bs)) .wall) lines-are
+
+      worked-is : s .worked ≡ padded 8 0 (workedFrom 0 (length (linesHeld table)) ((settledAt H (linesHeld table) (entriesOf bs)) .wall))
+      worked-is =
+          worked-are (s .worked) ((settledAt H (linesOf (table .booths) hs) (entriesOf bs)) .wall) (table .booths) few (running .worked-eight)
+          (λ j l. running .course .worked-is j (omega (arith, counted))) (λ j l. running .others j (omega (arith, counted)))
+          ∙ ap (λ w. padded 8 0 (workedFrom 0 (table .booths) w)) wall-same
+          ∙ ap (λ m. padded 8 0 (workedFrom 0 m ((settledAt H (linesHeld table) (entriesOf bs)) .wall))) (sym lines-short)
+
+      idle-is : s .idle ≡ count nobody ((settledAt H (linesHeld table) (entriesOf bs)) .wall)
+      idle-is = running .course .idle-is ∙ ap (count nobody) wall-same
+
+      booths-is : table .booths ≡ length (map (λ (b : Booth). b .u) ((settledAt H (linesHeld table) (entriesOf bs)) .booths))
+      booths-is =
+          sym (length-map ((settledAt H (linesHeld table) (entriesOf bs)) .booths) (λ b. b .u) ∙ length-booths (linesHeld table) (entriesOf bs) H ∙ lines-short)
+
+      pub answer-is : made (table .booths) clocks (s .worked) (s .idle) ≡ answered (played (linesHeld table) (logOf H bs) wall own)
+      unfolding answered played logOf accepted refusal
+      answer-is = made-same booths-is clocks-is worked-is idle-is
+
+      pub wall-is : wall₁ ≡ (played (linesHeld table) (logOf H bs) wall own) .wall
+      unfolding played logOf
+      wall-is = running .course .wall-is ∙ ap (λ w. written 0 w wall) wall-same
+
+      pub own-is : own₂ ≡ (played (linesHeld table) (logOf H bs) wall own) .own
+      unfolding played logOf
+      own-is = e .closing .rows ∙ ap (λ x. writeRows H 0 x own) final
+
+-- ---- the session's own answer
+
+pub refused-all : (o : Outcome) (v : Verdict) (wall own : List ℕ) (a : SessionAnswer) → o ≡ nothingDone v wall own → a ≡ nothingAnswered v → (a ≡ answered o) × ((wall ≡ o .wall) × (own ≡ o .own))
+unfolding answered nothingAnswered nothingDone
+refused-all o v wall own a e is = (is ∙ sym (ap answered e), (sym (ap (λ x. x .wall) e), sym (ap (λ x. x .own) e)))
+
+module _ (tableBytes logBytes wall own : List ℕ) (a : TableAnswer) (k : TableTaken tableBytes a) (fit : FitTable (a .table)) (log : Log)
+    (log-read : readLog (linesHeld (a .table)) logBytes ≡ taken log) where
+  held : linesHeld (a .table) ≡ k .lines
+  held = ap linesHeld (k .held) ∙ lines-held (k .lines)
+
+  pub table-read : readTable tableBytes ≡ taken (linesHeld (a .table))
+  table-read = k .read ∙ ap taken (sym held)
+
+  pub lines-count : length (linesHeld (a .table)) ≡ a .table .booths
+  unfolding linesHeld
+  lines-count = held-length (a .table .lines) (a .table .booths) (omega (arith, fit .lines .eight, fit .lines .few))
+
+  known : Accepted (linesHeld (a .table)) logBytes log
+  known = accepted-log (linesHeld (a .table)) logBytes log log-read
+
+  module _ (H : ℕ) (ticks : H ≡ log .horizon) (wall-room : H ≤ length wall) (own-room : a .table .booths * H ≤ length own) where
+    wall-fits : log .horizon ≤ length wall
+    wall-fits = omega arith
+
+    own-fits : length (linesHeld (a .table)) * log .horizon ≤ length own
+    own-fits = subst (λ m. length (linesHeld (a .table)) * m ≤ length own) ticks (omega (arith, ap (λ m. m * H) lines-count))
+
+    whole : Session
+    whole =
+        record {
+          tableBytes = tableBytes;
+          logBytes = logBytes;
+          wallLent = wall;
+          ownLent = own;
+          accepts = answers tableBytes logBytes wall own (linesHeld (a .table)) log table-read log-read wall-fits own-fits;
+          table = linesHeld (a .table);
+          log = log;
+          table-read = table-read;
+          log-read = log-read;
+        }
+
+    sorted : Sorted (log .entries)
+    unfolding whole
+    sorted = (log-is-read whole) .sorted
+
+    pub playable : Playable (a .table) logBytes wall own H
+    unfolding whole
+    playable =
+        record {
+          opening = record {
+            fit = fit;
+            log = log-fits (linesHeld (a .table)) logBytes log known sorted;
+            own = λ j at h p l e. task-fits (a .table) logBytes log fit known j at h p l e;
+          };
+          as-read = subst (AsRead (linesHeld (a .table))) (entries-are (linesHeld (a .table)) logBytes log known) (read-as whole);
+          ticks = omega (arith, known .session);
+          wall-room = wall-room;
+          own-room = own-room;
+        }
+
+    log-is : logOf H logBytes ≡ log
+    unfolding logOf
+    log-is =
+        ap (λ h. record { horizon = h; entries = entriesOf logBytes }) ticks
+        ∙ ap (λ es. record { horizon = log .horizon; entries = es }) (sym (entries-are (linesHeld (a .table)) logBytes log known))
+
+    pub plays-it : session tableBytes logBytes wall own ≡ played (linesHeld (a .table)) (logOf H logBytes) wall own
+    plays-it = plays tableBytes logBytes wall own (linesHeld (a .table)) table-read log log-read wall-fits own-fits ∙ ap (λ l. played (linesHeld (a .table)) l wall own) (sym log-is)
