@@ -205,10 +205,11 @@ impl Booth {
         ensures row { λ r. ⌜ drop (r .clock .0) (now (row .exit)) ≡ drop (r .clock .0) (now (row .entry)) ⌝ }
     {
         let u = self.clock.0;
+        let next = u + 1;
         row[u as usize] = k as u8;
         let left = self.demand[k] - 1;
         self.demand[k] = left;
-        let clock = OwnTick(u + 1);
+        let clock = OwnTick(next);
         self.clock = clock;
         if left == 0 {
             let all = self.demand;
