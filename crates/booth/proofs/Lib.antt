@@ -4,3 +4,4 @@ pub mod Rows
 pub mod Taking
 pub mod Settling
 pub mod Working
+pub mod Opening

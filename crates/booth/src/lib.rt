@@ -6,8 +6,8 @@ ghost use lib.ListN.{length, getD, take, drop, replicate, set};
 ghost use Rattle.rules.specs.ArrivalLog.{entryAt};
 ghost use Rattle.rules.specs.Due as page;
 ghost use Rattle.rules.specs.Moves as moves;
-ghost use Rattle.table.specs.Fit.{Sounds};
-ghost use Rattle.booth.specs.Shown.{firstOf, shown, settledAnswer, takesNext, takenNext, wakesAt, Log, Place, Found, Looked, Steady, Fit, AfterSettle, AfterPlay, demanding, clockAt, lengthened};
+ghost use Rattle.table.specs.Fit.{Sounds, FitLine};
+ghost use Rattle.booth.specs.Shown.{firstOf, shown, settledAnswer, takesNext, takenNext, wakesAt, Log, Place, Found, Looked, Steady, OwnTasks, Fit, AfterOpen, AfterSettle, AfterPlay, demanding, clockAt, lengthened};
 use rules::Line;
 use rules::OwnTick;
 use rules::WallTick;
@@ -98,6 +98,19 @@ impl Booth {
         let point = rules::due(promise, tick);
         self.point = point;
         self
+    }
+
+    // A booth before the first wall tick: own clock 0, no demand, and the first of its entries found.
+    pub fn open(log: &[u8], number: u8, line: Line) -> Self
+        requires { ⌜ Log (now log) × FitLine line × OwnTasks (now log) number (line .tasks) ⌝ }
+        ensures { λ r. ⌜ AfterOpen (now (log .entry)) number line r ⌝ }
+    {
+        let demand: [u32; 8] = [0; 8];
+        let clock = OwnTick(0);
+        let tick = WallTick(NEVER);
+        let point = OwnTick(0);
+        let fresh = Booth { number, line, clock, at: 9, tick, point, first: 8, demand };
+        fresh.look(log, 9)
     }
 
     // Task k has d more to play.
