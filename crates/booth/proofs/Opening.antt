@@ -1,18 +1,18 @@
 -- A booth as it is opened is the rules' fresh booth. Assumes nothing.
 use mathlib.Core.Path.{_≡_, refl, sym, ap, _∙_, subst}
-use mathlib.Core.List.{List, [], _∷_}
-use Prim.Native.Nat.{ℕ, zero, suc, _+_, _-_, _*_, _≤_, _<_}
+use mathlib.Core.List.{List, _∷_}
+use Prim.Native.Nat.{ℕ, zero, suc, _≤_}
 use native.Mathlib.Nat.{not-suc-le-zero, le-of-suc-le-suc}
 use native.Mathlib.Omega.{arith}
 use lib.ListN.{length, getD, take, replicate}
 use lib.Seq.{length-take-le}
 use Rattle.rules.specs.declared.Line.{Line as HeldLine}
-use Rattle.rules.specs.Moves.{Booth, noDemand}
+use Rattle.rules.specs.Moves.{noDemand}
 use Rattle.rules.specs.Session.{freshBooth}
 use Rattle.rules.specs.Values.{lineHeld}
 use Rattle.table.specs.Fit.{FitLine}
 use Rattle.booth.specs.declared.Booth.{Booth as HeldBooth}
-use Rattle.booth.specs.Shown.{firstOf, shown, waitingAt, never, Log, Waits, OwnTasks, Fit, AfterOpen, Looked, lookingAt}
+use Rattle.booth.specs.Shown.{firstOf, shown, never, Log, Waits, OwnTasks, Fit, AfterOpen, Looked, lookingAt}
 use Rattle.booth.proofs.Demand.{all-zero}
 
 -- no clock tick passed, no demand, and nothing read of the log yet

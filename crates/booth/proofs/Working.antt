@@ -1,25 +1,24 @@
 -- A settled booth's answer, what working does to it, and when it need not be asked. Assumes nothing.
 use mathlib.Core.Path.{_≡_, refl, sym, ap, _∙_, subst}
 use mathlib.Core.Logic.{⊎-elim}
-use mathlib.Core.Bool.{Bool, true, false, not, _&&_, true≢false}
-use mathlib.Core.List.{List, [], _∷_, _++_}
-use Prim.Native.Nat.{ℕ, suc, _+_, _-_, _*_, _≤_, _<_}
+use mathlib.Core.Bool.{Bool, true, false, not, _&&_}
+use mathlib.Core.List.{List}
+use Prim.Native.Nat.{ℕ, suc, _+_, _-_, _≤_, _<_}
 use native.Mathlib.Decide.{ℕ-discrete, decLe}
 use native.Mathlib.Numerals.{add-one}
 use native.Mathlib.Omega.{arith}
 use lib.Dec.{ltb, eqb}
 use lib.ListN.{length, getD, take, drop, set, length-set}
 use lib.Seq.{getD-set-same, getD-set-other, take-suc-set, drop-set-lt}
-use borrow.Author.Tests.{eq-eqb, ne-eqb, lt-ltb, le-ltb, eqb-true, eqb-false}
+use borrow.Author.Tests.{eq-eqb, ne-eqb, lt-ltb, le-ltb}
 use Rattle.rules.specs.Due.{due}
-use Rattle.rules.specs.Moves.{Booth, noDemand, firstTask, loseOne, mayWork, work, settle}
+use Rattle.rules.specs.Moves.{firstTask, mayWork, work, settle}
 use Rattle.rules.specs.Values.{lineHeld}
 use Rattle.laws.proofs.QuickSettle.{InOrder, Late}
 use Rattle.laws.proofs.Asleep.{asleep-silent, asleep-busy, opens}
 use Rattle.booth.specs.declared.Booth.{Booth as HeldBooth}
-use Rattle.booth.specs.declared.Chosen.{Chosen}
 use Rattle.booth.specs.declared.Chosen.the-variants.{Task, Nothing}
-use Rattle.booth.specs.Shown.{firstOf, shown, settledAnswer, wakesAt, never, Log, Steady, Waits, Fit, AfterPlay}
+use Rattle.booth.specs.Shown.{firstOf, shown, settledAnswer, wakesAt, Log, Steady, Fit, AfterPlay}
 use Rattle.booth.proofs.Demand.{First, demand-or-none, first-here, first-same, first-taken, lose-taken}
 use Rattle.booth.proofs.Waiting.{waiting-end}
 use Rattle.booth.proofs.Taking.{first-waits}

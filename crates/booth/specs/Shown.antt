@@ -4,7 +4,7 @@ use mathlib.Core.Bool.{Bool, true, false, _&&_, _||_}
 use mathlib.Core.List.{List, [], _∷_, _++_}
 use Prim.Native.Nat.{ℕ, zero, suc, _+_, _-_, _*_, _/_, _%_, _≤_, _<_}
 use lib.Dec.{leb, eqb}
-use lib.ListN.{length, getD, take, drop, set, replicate}
+use lib.ListN.{length, getD, take, drop}
 use Rattle.rules.specs.declared.Line.{Line as HeldLine}
 use Rattle.rules.specs.ArrivalLog.{Entry, entryAt}
 use Rattle.rules.specs.Due.{due}

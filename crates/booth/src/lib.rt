@@ -1,9 +1,8 @@
 // One booth and its moves at a wall tick: settle, then play. Each move takes the booth and hands it back changed.
 ghost use mathlib.Core.Path.{_≡_};
 ghost use mathlib.Core.List.{List};
-ghost use Prim.Native.Nat.{ℕ, _+_, _*_, _-_, _%_, _/_, _≤_, _<_};
-ghost use lib.ListN.{length, getD, take, drop, replicate, set};
-ghost use Rattle.rules.specs.ArrivalLog.{entryAt};
+ghost use Prim.Native.Nat.{ℕ, _+_, _-_, _≤_, _<_};
+ghost use lib.ListN.{length, getD, drop, replicate, set};
 ghost use Rattle.rules.specs.Due as page;
 ghost use Rattle.rules.specs.Moves as moves;
 ghost use Rattle.table.specs.Fit.{Sounds, FitLine};
@@ -109,7 +108,16 @@ impl Booth {
         let clock = OwnTick(0);
         let tick = WallTick(NEVER);
         let point = OwnTick(0);
-        let fresh = Booth { number, line, clock, at: 9, tick, point, first: 8, demand };
+        let fresh = Booth {
+            number,
+            line,
+            clock,
+            at: 9,
+            tick,
+            point,
+            first: 8,
+            demand,
+        };
         fresh.look(log, 9)
     }
 

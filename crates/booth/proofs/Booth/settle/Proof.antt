@@ -1,16 +1,15 @@
 -- `booth::Booth::settle` meets its contract: taking entries one by one, then resting, is document 01's settle. Assumes nothing.
-use mathlib.Core.Path.{_≡_, refl, sym, ap, _∙_, subst}
-use Prim.Native.Nat.{ℕ, _+_, _-_, _≤_, _<_}
+use mathlib.Core.Path.{_≡_, sym, ap, _∙_, subst}
+use Prim.Native.Nat.{_+_, _-_, _≤_}
 use native.Mathlib.Omega.{arith}
 use borrow.Author.Needs.{needs}
 use lib.ListN.{length, drop}
 use Rattle.rules.specs.declared.Line.{Line}
 use Rattle.rules.specs.Due.{due}
-use Rattle.laws.proofs.DueLaws.{due-at-most}
 use Rattle.booth.specs.declared.Booth.{Booth}
 use Rattle.booth.specs.Shown.{shown, clockAt, Fit}
 use Rattle.booth.proofs.Taking.{fit-moved}
-use Rattle.booth.proofs.Settling.{Settling, sound-promise, settles-first, settles-on, due-fits, settled-busy, settled-free, takes-inside, point-due, behind-moved}
+use Rattle.booth.proofs.Settling.{Settling, settles-first, settles-on, due-fits, settled-busy, settled-free, takes-inside, point-due, behind-moved}
 use Rattle.booth.proofs.Booth.settle.Statement.{statement}
 use Rattle.booth.proofs.Booth.settle.Tie as tie
 use Rattle.booth.proofs.Booth.settle.Reads as reads
