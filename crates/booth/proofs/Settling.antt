@@ -1,15 +1,16 @@
 -- A booth that takes its waiting entries one after the other settles as document 01 says. Assumes nothing.
-use mathlib.Core.Path.{_≡_, refl, sym, ap, _∙_}
-use mathlib.Core.Bool.{Bool, true, false, _&&_, _||_, or-true, true≢false}
+use mathlib.Core.Path.{_≡_, refl, sym, ap, _∙_, subst}
+use mathlib.Core.Bool.{Bool, true, false, _&&_, _||_, or-true, true≢false, false≢true}
 use mathlib.Core.List.{List, [], _∷_}
-use Prim.Native.Nat.{ℕ, _+_, _-_, _≤_, _<_}
+use Prim.Native.Nat.{ℕ, suc, _+_, _-_, _≤_, _<_}
 use native.Mathlib.Decide.{decLe}
 use native.Mathlib.Omega.{arith}
 use lib.Dec.{leb, eqb}
 use lib.ListN.{length, take, drop, replicate, length-replicate}
-use borrow.Author.Tests.{leb-true, eq-eqb, ne-eqb}
+use borrow.Author.Tests.{leb-true, leb-false, eq-eqb, ne-eqb}
 use Rattle.rules.specs.declared.Promise.{Promise}
-use Rattle.rules.specs.ArrivalLog.{Entry}
+use Rattle.rules.specs.declared.Line.{Line as HeldLine}
+use Rattle.rules.specs.ArrivalLog.{Entry, entryAt}
 use Rattle.rules.specs.Due.{due, releasePoint}
 use Rattle.rules.specs.Moves.{Booth, noDemand, settle}
 use Rattle.rules.specs.Values.{lineHeld}
@@ -19,11 +20,11 @@ use Rattle.laws.proofs.DueLaws.{due-mono, due-at-most}
 use Rattle.laws.proofs.QuickSettle.{forward, addFirst, afterFirst, rest, rests, takesFirst, settleThrough, quickSettle, InOrder}
 use Rattle.laws.proofs.PageSettle.{settle-quick}
 use Rattle.booth.specs.declared.Booth.{Booth as HeldBooth}
-use Rattle.booth.specs.Shown.{waitingAt, shown, takenNext, takesNext, Log, Steady, Fit, clockAt, lengthened}
+use Rattle.booth.specs.Shown.{waitingAt, shown, takenNext, takesNext, firstOf, never, Log, Steady, Fit, clockAt, lengthened}
 use Rattle.booth.proofs.Demand.{eight-none, none-taken}
 use Rattle.booth.proofs.Waiting.{waiting-end, waiting-sorted}
 use Rattle.booth.proofs.Rows.{written-behind, agree-later}
-use Rattle.booth.proofs.Taking.{entryOf, taken-next, first-waits, shown-moved}
+use Rattle.booth.proofs.Taking.{entryOf, taken-next, first-waits, shown-moved, fit-moved}
 
 pub sound-promise : (p : Promise) → Sounds p → Sound p
 sound-promise p s = record { period = s .period; allowance = s .allowance; within = s .within }

@@ -1,21 +1,24 @@
 -- What a booth shows as its code takes the first waiting entry or moves its clock. Assumes nothing.
 use mathlib.Core.Path.{_≡_, refl, sym, ap, _∙_, subst}
-use mathlib.Core.List.{List, _∷_, _++_}
-use Prim.Native.Nat.{ℕ, _+_, _-_, _*_, _≤_, _<_}
+use mathlib.Core.Logic.{_⊎_, inl, inr}
+use mathlib.Core.Bool.{Bool, true, false, _&&_, _||_}
+use mathlib.Core.List.{List, [], _∷_, _++_}
+use Prim.Native.Nat.{ℕ, suc, _+_, _-_, _*_, _%_, _≤_, _<_}
 use native.Mathlib.Decide.{ℕ-discrete}
 use native.Mathlib.Omega.{arith}
-use lib.ListN.{length, getD, take, set, replicate, length-set, length-replicate}
+use lib.Dec.{leb, eqb}
+use lib.ListN.{length, getD, take, drop, set, replicate, length-set, length-replicate}
 use lib.Seq.{getD-set-same, getD-set-other}
 use Rattle.rules.specs.ArrivalLog.{Entry, entryAt}
-use Rattle.rules.specs.Due.{releasePoint}
-use Rattle.rules.specs.Moves.{Booth, addDemand}
+use Rattle.rules.specs.Due.{due, releasePoint}
+use Rattle.rules.specs.Moves.{Booth, nobody, noDemand, addDemand}
 use Rattle.rules.specs.Values.{lineHeld}
-use Rattle.laws.proofs.QuickSettle.{forward, addFirst, afterFirst}
+use Rattle.laws.proofs.QuickSettle.{forward, addFirst, afterFirst, takesFirst, settleThrough, quickSettle}
 use Rattle.booth.specs.declared.Booth.{Booth as HeldBooth}
-use Rattle.booth.specs.Shown.{waitingAt, shown, takenNext, Next, Waits, Fit, Looked, lookingAt, demanding, clockAt, lengthened}
-use Rattle.booth.proofs.Demand.{add-taken}
-use Rattle.booth.proofs.Waiting.{whole-entry, waiting-own}
-use Rattle.booth.proofs.Rows.{written-front}
+use Rattle.booth.specs.Shown.{waitingAt, shown, takenNext, takesNext, firstOf, never, Log, Place, Next, Waits, Steady, Fit, Looked, lookingAt, demanding, clockAt, lengthened}
+use Rattle.booth.proofs.Demand.{eight-none, none-taken, add-taken}
+use Rattle.booth.proofs.Waiting.{whole-entry, waiting-end, waiting-own}
+use Rattle.booth.proofs.Rows.{written-front, written-behind}
 
 -- ---- the clock moves
 

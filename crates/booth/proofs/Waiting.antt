@@ -1,12 +1,14 @@
 -- The entries that wait from a place of the log on. Assumes nothing.
-use mathlib.Core.Path.{_≡_}
+use mathlib.Core.Path.{_≡_, refl, sym, ap, _∙_, subst}
+use mathlib.Core.Bool.{Bool, true, false}
 use mathlib.Core.List.{List, [], _∷_}
-use Prim.Native.Nat.{ℕ, zero, suc, _+_, _-_, _*_, _/_, _≤_, _<_}
+use Prim.Native.Nat.{ℕ, zero, suc, _+_, _-_, _*_, _/_, _%_, _≤_, _<_}
 use native.Mathlib.Nat.{suc-add, zero-add}
 use native.Mathlib.Omega.{arith}
+use lib.Dec.{eqb}
 use lib.ListN.{length}
 use borrow.Author.Tests.{eq-eqb, ne-eqb}
-use Rattle.rules.specs.ArrivalLog.{entryAt}
+use Rattle.rules.specs.ArrivalLog.{Entry, entryAt}
 use Rattle.rules.specs.Session.{ownEntries}
 use Rattle.laws.proofs.Entries.{Sorted, own-sorted}
 use Rattle.booth.specs.Shown.{entriesFrom, waitingAt, Log, Place}

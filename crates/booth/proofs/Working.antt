@@ -1,24 +1,25 @@
 -- A settled booth's answer, what working does to it, and when it need not be asked. Assumes nothing.
 use mathlib.Core.Path.{_≡_, refl, sym, ap, _∙_, subst}
 use mathlib.Core.Logic.{⊎-elim}
-use mathlib.Core.Bool.{Bool, true, false, not, _&&_}
-use mathlib.Core.List.{List}
-use Prim.Native.Nat.{ℕ, suc, _+_, _-_, _≤_, _<_}
+use mathlib.Core.Bool.{Bool, true, false, not, _&&_, true≢false}
+use mathlib.Core.List.{List, [], _∷_, _++_}
+use Prim.Native.Nat.{ℕ, suc, _+_, _-_, _*_, _≤_, _<_}
 use native.Mathlib.Decide.{ℕ-discrete, decLe}
 use native.Mathlib.Numerals.{add-one}
 use native.Mathlib.Omega.{arith}
 use lib.Dec.{ltb, eqb}
 use lib.ListN.{length, getD, take, drop, set, length-set}
 use lib.Seq.{getD-set-same, getD-set-other, take-suc-set, drop-set-lt}
-use borrow.Author.Tests.{eq-eqb, ne-eqb, lt-ltb, le-ltb}
+use borrow.Author.Tests.{eq-eqb, ne-eqb, lt-ltb, le-ltb, eqb-true, eqb-false}
 use Rattle.rules.specs.Due.{due}
-use Rattle.rules.specs.Moves.{firstTask, mayWork, work, settle}
+use Rattle.rules.specs.Moves.{Booth, noDemand, firstTask, loseOne, mayWork, work, settle}
 use Rattle.rules.specs.Values.{lineHeld}
 use Rattle.laws.proofs.QuickSettle.{InOrder, Late}
 use Rattle.laws.proofs.Asleep.{asleep-silent, asleep-busy, opens}
 use Rattle.booth.specs.declared.Booth.{Booth as HeldBooth}
+use Rattle.booth.specs.declared.Chosen.{Chosen}
 use Rattle.booth.specs.declared.Chosen.the-variants.{Task, Nothing}
-use Rattle.booth.specs.Shown.{firstOf, shown, settledAnswer, wakesAt, Log, Steady, Fit, AfterPlay}
+use Rattle.booth.specs.Shown.{firstOf, shown, settledAnswer, wakesAt, never, Log, Steady, Waits, Fit, AfterPlay}
 use Rattle.booth.proofs.Demand.{First, demand-or-none, first-here, first-same, first-taken, lose-taken}
 use Rattle.booth.proofs.Waiting.{waiting-end}
 use Rattle.booth.proofs.Taking.{first-waits}
@@ -58,46 +59,6 @@ module _ (bs : List ℕ) (h : HeldBooth) (row : List ℕ) (s : Steady h) where
       let may : mayWork t (shown bs h row) ≡ true = may-held t ∙ rw (ne-eqb (h .first) 8 busy, lt-ltb (h .clock .0) (due (h .line .promise) (suc t)) early) in
       rw (may, settledAnswer) (ap Task (sym (task-held busy)))
 
--- what follows from an answer
-
-pub record Chose (t : ℕ) (bs : List ℕ) (h : HeldBooth) (row : List ℕ) (k : ℕ) : Type 0 where
-  pub first : k ≡ h .first
-  pub task : k < 8
-  pub early : h .clock .0 < due (h .line .promise) (suc t)
-  pub may : mayWork t (shown bs h row) ≡ true
-
-module _ (bs : List ℕ) (h : HeldBooth) (row : List ℕ) (s : Steady h) (t : ℕ) where
-  pub chose-task : (k : ℕ) → settledAnswer t (shown bs h row) ≡ Task k → Chose t bs h row k
-  chose-task k a = go (ℕ-discrete (h .first) 8) (decLe (due (h .line .promise) (suc t)) (h .clock .0))
-    where
-      clash : Nothing ≡ Task k → Chose t bs h row k
-      clash q = let z : _≡_ {A = ℕ} 0 1 = cc in absurd (omega arith)
-
-      go : Dec (h .first ≡ 8) → Dec (due (h .line .promise) (suc t) ≤ h .clock .0) → Chose t bs h row k
-      go (yes free) d = clash (answers-none bs h row s t free ∙ a)
-      go (no busy) (yes late) = clash (answers-late bs h row s t busy late ∙ a)
-      go (no busy) (no soon) =
-          let early : h .clock .0 < due (h .line .promise) (suc t) = omega arith in
-          let same : Task (h .first) ≡ Task k = answers-task bs h row s t busy early ∙ a in
-          let is : k ≡ h .first = cc in
-          record {
-            first = is;
-            task = omega (arith, (held-first h s busy) .there, s .eight);
-            early = early;
-            may = may-held bs h row s t ∙ rw (ne-eqb (h .first) 8 busy, lt-ltb (h .clock .0) (due (h .line .promise) (suc t)) early);
-          }
-
-  pub chose-nothing : settledAnswer t (shown bs h row) ≡ Nothing → mayWork t (shown bs h row) ≡ false
-  unfolding settledAnswer
-  chose-nothing a = go (mayWork t (shown bs h row)) refl
-    where
-      go : (c : Bool) → mayWork t (shown bs h row) ≡ c → mayWork t (shown bs h row) ≡ false
-      go true q =
-          let task : settledAnswer t (shown bs h row) ≡ Task (firstTask 0 ((shown bs h row) .left)) = rw (q, settledAnswer) in
-          let z : _≡_ {A = ℕ} 0 1 = cc in
-          absurd (omega arith)
-      go false q = q
-
 -- ---- the work
 
 -- a booth whose task k has lost 1 and whose clock has grown by 1, with this first task now
@@ -115,7 +76,7 @@ worked h k first =
     }
 
 module _ (h : HeldBooth) (s : Steady h) (k : ℕ) (f : First (h .demand) k) where
-  shown-worked : (bs row : List ℕ) (first : ℕ) → h .clock .0 < length row → shown bs (worked h k first) (set row (h .clock .0) k) ≡ work (shown bs h row)
+  pub shown-worked : (bs row : List ℕ) (first : ℕ) → h .clock .0 < length row → shown bs (worked h k first) (set row (h .clock .0) k) ≡ work (shown bs h row)
   unfolding shown worked work
   shown-worked bs row first inside =
       let u = h .clock .0 in
@@ -132,7 +93,7 @@ module _ (h : HeldBooth) (s : Steady h) (k : ℕ) (f : First (h .demand) k) wher
       go (yes q) = rw (q, getD-set-same (h .demand) k (getD (h .demand) k 0 - 1) 0 (f .there)) (omega arith)
       go (no ne) = rw (getD-set-other (h .demand) k j (getD (h .demand) k 0 - 1) 0 ne) (omega arith)
 
-  after-play : (first : ℕ) → first ≡ firstOf (set (h .demand) k (getD (h .demand) k 0 - 1)) → AfterPlay h (worked h k first)
+  pub after-play : (first : ℕ) → first ≡ firstOf (set (h .demand) k (getD (h .demand) k 0 - 1)) → AfterPlay h (worked h k first)
   unfolding worked
   after-play first q =
       record { steady = steady; fit = fit; line = refl; number = refl; at = refl; tick = refl; point = refl; clock = refl; falls = demand-falls }
@@ -159,14 +120,6 @@ module _ (h : HeldBooth) (s : Steady h) (k : ℕ) (f : First (h .demand) k) wher
             own = b .own;
             room = λ j. omega (arith, demand-falls j, b .room j);
           }
-
-  -- all that play ensures, whichever task is the first afterwards
-  pub plays : (row : List ℕ) → h .clock .0 < length row → (first : ℕ) → first ≡ firstOf (set (h .demand) k (getD (h .demand) k 0 - 1))
-      → AfterPlay h (worked h k first)
-      × (((bs : List ℕ) → shown bs (worked h k first) (set row (h .clock .0) k) ≡ work (shown bs h row))
-      × (drop (h .clock .0 + 1) (set row (h .clock .0) k) ≡ drop (h .clock .0 + 1) row))
-  plays row inside first q =
-      (after-play first q, (λ bs. shown-worked bs row first inside, drop-set-lt (h .clock .0 + 1) row (h .clock .0) k (omega arith)))
 
   -- the first task stays the first while it has demand left
   pub first-stays : 0 < getD (h .demand) k 0 - 1 → k ≡ firstOf (set (h .demand) k (getD (h .demand) k 0 - 1))

@@ -4,12 +4,11 @@ use mathlib.Core.Bool.{Bool, true, false, _&&_, _||_}
 use mathlib.Core.List.{List, [], _∷_, _++_}
 use Prim.Native.Nat.{ℕ, zero, suc, _+_, _-_, _*_, _/_, _%_, _≤_, _<_}
 use lib.Dec.{leb, eqb}
-use lib.ListN.{length, getD, take, drop}
-use Rattle.rules.specs.declared.Line.{Line as HeldLine}
+use lib.ListN.{length, getD, take, drop, set, replicate}
 use Rattle.rules.specs.ArrivalLog.{Entry, entryAt}
 use Rattle.rules.specs.Due.{due}
 use Rattle.rules.specs.Moves.{Booth, noDemand, firstTask, mayWork}
-use Rattle.rules.specs.Session.{ownEntries, freshBooth}
+use Rattle.rules.specs.Session.{ownEntries}
 use Rattle.rules.specs.Values.{lineHeld}
 use Rattle.table.specs.Fit.{Sounds}
 use Rattle.laws.proofs.Entries.{Sorted}
@@ -98,26 +97,14 @@ pub record Steady (h : HeldBooth) : Type 0 where
   pub rest : (k : ℕ) → h .line .tasks ≤ k → getD (h .demand) k 0 ≡ 0
   pub first : h .first ≡ firstOf (h .demand)
 
--- each entry of the booth is for one of its tasks
-abbrev pub OwnTasks : List ℕ → ℕ → ℕ → Type 0
-OwnTasks bs number tasks = (at : ℕ) → Place bs at → at < length bs → (entryAt bs at) .booth ≡ number → (entryAt bs at) .task < tasks
-
 -- what holds of a booth between two moves: also of its place in the log, its tasks there, and that no sum of demand grows too large
 pub record Fit (bs : List ℕ) (h : HeldBooth) : Type 0 where
   pub steady : Steady h
   pub waits : Waits bs h
-  pub own : OwnTasks bs (h .number) (h .line .tasks)
+  pub own : (at : ℕ) → Place bs at → at < length bs → (entryAt bs at) .booth ≡ h .number → (entryAt bs at) .task < h .line .tasks
   pub room : (k : ℕ) → getD (h .demand) k 0 * 9 + 65535 * (length bs - h .at) ≤ 65535 * 36873
 
 -- ---- what holds of a booth after a move
-
--- opened: the rules' fresh booth with all its entries of the log before it, whatever the row holds
-pub record AfterOpen (bs : List ℕ) (n : ℕ) (l : HeldLine) (r : HeldBooth) : Type 0 where
-  pub fit : Fit bs r
-  pub line : r .line ≡ l
-  pub number : r .number ≡ n
-  pub clock : r .clock .0 ≡ 0
-  pub fresh : (row : List ℕ) → shown bs r row ≡ freshBooth (lineHeld l) (waitingAt bs n 9)
 
 -- settled at t: its clock has not gone back and is not past due(t)
 pub record AfterSettle (bs : List ℕ) (t : ℕ) (h r : HeldBooth) : Type 0 where

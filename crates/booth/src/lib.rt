@@ -1,8 +1,9 @@
 // One booth and its moves at a wall tick: settle, then play. Each move takes the booth and hands it back changed.
 ghost use mathlib.Core.Path.{_≡_};
 ghost use mathlib.Core.List.{List};
-ghost use Prim.Native.Nat.{ℕ, _+_, _-_, _≤_, _<_};
-ghost use lib.ListN.{length, getD, drop, replicate, set};
+ghost use Prim.Native.Nat.{ℕ, _+_, _*_, _-_, _%_, _/_, _≤_, _<_};
+ghost use lib.ListN.{length, getD, take, drop, replicate, set};
+ghost use Rattle.rules.specs.ArrivalLog.{entryAt};
 ghost use Rattle.rules.specs.Due as page;
 ghost use Rattle.rules.specs.Moves as moves;
 ghost use Rattle.rules.specs.Session.{freshBooth};
@@ -146,28 +147,6 @@ impl Booth {
         self
     }
 
-    // A booth before the first wall tick: own clock 0, no demand, and the first of its entries found.
-    pub fn open(log: &[u8], number: u8, line: Line) -> Self
-        requires { ⌜ Log (now log) × FitLine line × OwnTasks (now log) number (line .tasks) ⌝ }
-        ensures { λ r. ⌜ AfterOpen (now (log .entry)) number line r ⌝ }
-    {
-        let demand: [u32; 8] = [0; 8];
-        let clock = OwnTick(0);
-        let tick = WallTick(NEVER);
-        let point = OwnTick(0);
-        let fresh = Booth {
-            number,
-            line,
-            clock,
-            at: 9,
-            tick,
-            point,
-            first: 8,
-            demand,
-        };
-        fresh.look(log, 9)
-    }
-
     // Task k has d more to play.
     fn add(mut self, k: usize, d: u32) -> Self
         requires { ⌜ (k < 8) × (0 < d) × (length (self .demand) ≡ 8) × (getD (self .demand) k 0 + d < 4294967296) × (self .first ≡ firstOf (self .demand)) ⌝ }
@@ -273,11 +252,10 @@ impl Booth {
         ensures row { λ r. ⌜ drop (r .clock .0) (now (row .exit)) ≡ drop (r .clock .0) (now (row .entry)) ⌝ }
     {
         let u = self.clock.0;
-        let next = u + 1;
         row[u as usize] = k as u8;
         let left = self.demand[k] - 1;
         self.demand[k] = left;
-        let clock = OwnTick(next);
+        let clock = OwnTick(u + 1);
         self.clock = clock;
         if left == 0 {
             let all = self.demand;

@@ -1,10 +1,10 @@
 -- `booth::first_task` meets its contract: the tasks passed have no demand. Assumes nothing.
 use mathlib.Core.Path.{_≡_, sym, _∙_}
-use Prim.Native.Nat.{ℕ, _-_, _≤_, _<_}
+use Prim.Native.Nat.{ℕ, _+_, _-_, _≤_, _<_}
 use native.Mathlib.Omega.{arith}
-use borrow.Author.Count.{below-more}
+use borrow.Author.Count.{below-none, below-more}
 use borrow.Author.Needs.{needs}
-use lib.ListN.{getD}
+use lib.ListN.{length, getD}
 use Rattle.booth.proofs.Demand.{is-first, first-is, no-first}
 use Rattle.booth.proofs.first_task.Statement.{statement}
 use Rattle.booth.proofs.first_task.Tie as tie

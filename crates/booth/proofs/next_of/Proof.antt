@@ -1,11 +1,11 @@
 -- `booth::next_of` meets its contract: every entry passed is another booth's. Assumes nothing.
 use mathlib.Core.Path.{_≡_, refl, sym, _∙_}
-use Prim.Native.Nat.{_-_, _≤_}
+use Prim.Native.Nat.{_+_, _-_, _≤_, _<_}
 use native.Mathlib.Omega.{arith}
 use borrow.Author.Needs.{needs}
 use lib.ListN.{length}
 use Rattle.rules.specs.ArrivalLog.{entryAt}
-use Rattle.booth.specs.Shown.{waitingAt, Place}
+use Rattle.booth.specs.Shown.{waitingAt, Place, Found}
 use Rattle.booth.proofs.Waiting.{whole-entry, waiting-other}
 use Rattle.booth.proofs.next_of.Statement.{statement}
 use Rattle.booth.proofs.next_of.Tie as tie

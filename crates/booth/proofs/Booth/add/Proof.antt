@@ -1,9 +1,9 @@
 -- `booth::Booth::add` meets its contract. Assumes nothing.
-use mathlib.Core.Path.{_≡_}
+use mathlib.Core.Path.{_≡_, refl, sym, ap, _∙_}
 use mathlib.Core.Logic.{⊎-elim}
-use Prim.Native.Nat.{_+_}
+use Prim.Native.Nat.{_+_, _-_, _≤_, _<_}
 use native.Mathlib.Omega.{arith}
-use lib.ListN.{getD, set}
+use lib.ListN.{length, getD, set}
 use Rattle.booth.specs.Shown.{demanding, firstOf}
 use Rattle.booth.proofs.Demand.{demand-or-none, first-earlier, first-same}
 use borrow.Author.Needs.{needs}

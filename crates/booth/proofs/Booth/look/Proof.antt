@@ -1,9 +1,10 @@
 -- `booth::Booth::look` meets its contract. Assumes nothing.
-use mathlib.Core.Path.{refl, ap, _∙_}
+use mathlib.Core.Path.{_≡_, refl, ap, _∙_}
+use Prim.Native.Nat.{_<_}
 use native.Mathlib.Omega.{arith}
 use Rattle.rules.specs.ArrivalLog.{entryAt}
 use Rattle.rules.specs.Due.{due}
-use Rattle.booth.specs.Shown.{lookingAt}
+use Rattle.booth.specs.Shown.{lookingAt, Looked, Waits, Next}
 use borrow.Author.Needs.{needs}
 use Rattle.booth.proofs.Booth.look.Statement.{statement}
 use Rattle.booth.proofs.Booth.look.Tie as tie

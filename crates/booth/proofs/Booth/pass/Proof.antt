@@ -1,8 +1,9 @@
 -- `booth::Booth::pass` meets its contract. Assumes nothing.
-use mathlib.Core.Path.{_≡_, sym, ap, _∙_}
-use Prim.Native.Nat.{_+_, _-_}
+use mathlib.Core.Path.{_≡_, refl, sym, ap, _∙_}
+use mathlib.Core.List.{List, [], _∷_}
+use Prim.Native.Nat.{ℕ, _+_, _-_, _≤_, _<_}
 use native.Mathlib.Omega.{arith}
-use lib.ListN.{replicate}
+use lib.ListN.{length, replicate}
 use borrow.Rule.Slice.PartMut.{mid-len}
 use Rattle.booth.specs.Shown.{clockAt, lengthened}
 use Rattle.booth.proofs.Rows.{written-none, part-silenced}

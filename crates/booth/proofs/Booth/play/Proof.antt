@@ -1,11 +1,13 @@
 -- `booth::Booth::play` meets its contract. Assumes nothing.
 use mathlib.Core.Path.{_≡_, sym, _∙_, subst}
-use Prim.Native.Nat.{ℕ, _<_}
+use Prim.Native.Nat.{ℕ, _+_, _-_, _≤_, _<_}
 use native.Mathlib.Omega.{arith}
+use lib.ListN.{length, getD, set}
+use lib.Seq.{drop-set-lt}
 use Rattle.booth.specs.declared.Booth.{Booth}
 use Rattle.booth.specs.Shown.{Steady}
 use Rattle.booth.proofs.Demand.{First}
-use Rattle.booth.proofs.Working.{worked, held-first, plays, first-stays}
+use Rattle.booth.proofs.Working.{worked, held-first, shown-worked, after-play, first-stays}
 use borrow.Author.Needs.{needs}
 use Rattle.booth.proofs.Booth.play.Statement.{statement}
 use Rattle.booth.proofs.Booth.play.Tie as tie
@@ -16,9 +18,6 @@ use Rattle.booth.proofs.first_task.Reads as first-task-reads
 -- the task that is played is the first with demand
 first-here : (h : Booth) (k : ℕ) → Steady h → k < 8 → k ≡ h .first → First (h .demand) k
 first-here h k s small is = subst (First (h .demand)) (sym is) (held-first h s (λ e. omega (arith, e)))
-
-add-next : tie.Need-add-next
-add-next c = search needs
 
 cast-row : tie.Need-cast-row
 cast-row c = search needs
@@ -38,13 +37,21 @@ element-copy-out-left c = search needs
 sub-left : tie.Need-sub-left
 sub-left c =
     let start = c .before .before in
-    (first-here (start .args .t1) (start .args .k) (start .pre .0) (start .pre .1) (start .pre .2)) .some
+    let h = start .args .t1 in
+    let k = start .args .k in
+    let row = start .args .row .now in
+    let s = start .pre .0 in
+    let f = first-here h k s (start .pre .1) (start .pre .2) in
+    f .some
 
 mul-self : tie.Need-mul-self
 mul-self c = search needs
 
 element-write-self : tie.Need-element-write-self
 element-write-self c = search needs
+
+add-t14 : tie.Need-add-t14
+add-t14 c = search needs
 
 first-task-requires : tie.Need-first-task-requires
 first-task-requires c κs = search needs
@@ -58,8 +65,12 @@ returns c =
     let start = c .before .before .before .before .before in
     let h = start .args .t1 in
     let k = start .args .k in
-    let f = first-here h k (start .pre .0) (start .pre .1) (start .pre .2) in
-    plays h (start .pre .0) k f (start .args .row .now) (start .pre .3) (c .first-task .result) (c .first-task .ensures)
+    let row = start .args .row .now in
+    let s = start .pre .0 in
+    let f = first-here h k s (start .pre .1) (start .pre .2) in (
+      after-play h s k f (c .first-task .result) (c .first-task .ensures),
+      (λ bs. shown-worked h s k f bs row (c .first-task .result) (start .pre .3), drop-set-lt (h .clock .0 + 1) row (h .clock .0) k (omega arith)),
+    )
 
 same-length-2 : tie.Need-same-length-2
 same-length-2 c = search needs
@@ -70,14 +81,17 @@ returns-2 c =
     let start = c .before .before .before in
     let h = start .args .t1 in
     let k = start .args .k in
-    let f = first-here h k (start .pre .0) (start .pre .1) (start .pre .2) in
-    plays h (start .pre .0) k f (start .args .row .now) (start .pre .3) (h .first) (sym (start .pre .2) ∙ first-stays h (start .pre .0) k f (omega (arith, c .if1 .left)))
+    let row = start .args .row .now in
+    let s = start .pre .0 in
+    let f = first-here h k s (start .pre .1) (start .pre .2) in (
+      after-play h s k f (h .first) (sym (start .pre .2) ∙ first-stays h s k f (omega (arith, c .if1 .left))),
+      (λ bs. shown-worked h s k f bs row (h .first) (start .pre .3), drop-set-lt (h .clock .0 + 1) row (h .clock .0) k (omega arith)),
+    )
 
 pub play-spec : {M : Type 1} → statement M
 play-spec =
     tie.close
     (tie.spec
-    add-next
     cast-row
     cast-row-2
     slice-write-row
@@ -86,6 +100,7 @@ play-spec =
     sub-left
     mul-self
     element-write-self
+    add-t14
     first-task-requires
     same-length
     returns

@@ -1,15 +1,16 @@
 -- `booth::Booth::settle` meets its contract: taking entries one by one, then resting, is document 01's settle. Assumes nothing.
-use mathlib.Core.Path.{_≡_, sym, ap, _∙_, subst}
-use Prim.Native.Nat.{_+_, _-_, _≤_}
+use mathlib.Core.Path.{_≡_, refl, sym, ap, _∙_, subst}
+use Prim.Native.Nat.{ℕ, _+_, _-_, _≤_, _<_}
 use native.Mathlib.Omega.{arith}
 use borrow.Author.Needs.{needs}
 use lib.ListN.{length, drop}
 use Rattle.rules.specs.declared.Line.{Line}
 use Rattle.rules.specs.Due.{due}
+use Rattle.laws.proofs.DueLaws.{due-at-most}
 use Rattle.booth.specs.declared.Booth.{Booth}
 use Rattle.booth.specs.Shown.{shown, clockAt, Fit}
 use Rattle.booth.proofs.Taking.{fit-moved}
-use Rattle.booth.proofs.Settling.{Settling, settles-first, settles-on, due-fits, settled-busy, settled-free, takes-inside, point-due, behind-moved}
+use Rattle.booth.proofs.Settling.{Settling, sound-promise, settles-first, settles-on, due-fits, settled-busy, settled-free, takes-inside, point-due, behind-moved}
 use Rattle.booth.proofs.Booth.settle.Statement.{statement}
 use Rattle.booth.proofs.Booth.settle.Tie as tie
 use Rattle.booth.proofs.Booth.settle.Reads as reads
@@ -84,8 +85,7 @@ pass-requires c κs =
     let s = c .before .before .before .before .before .before .before .before .loop .inv in
     let fits = due-fits bs t (start .args .self) (start .args .row .now) h row s (start .pre .3) in
     let test = sym (c .before .before .before .before .before .before .before .takes .ensures) ∙ c .before .before .before .before .before .before .if1 .left in
-    let point : c .before .due .result .0 ≡ due (h .line .promise) t = c .before .due .ensures in
-    (fits .0, omega (arith, fits .1))
+    (fits .0, omega (arith, fits .1, c .before .due .ensures))
 
 same-length : tie.Need-same-length Inv-loop μ-loop
 same-length c = c .before .before .pass .kept .1 .0 ∙ c .before .before .before .before .before .before .before .before .before .before .before .loop .inv .long
@@ -103,7 +103,7 @@ returns c =
     let test = sym (c .before .before .before .before .before .before .before .before .before .before .takes .ensures) ∙ c .before .before .before .before .before .before .before .before .before .if1 .left in
     let pass = c .before .before .pass in
     let v = c .before .before .before .before .due .result .0 in
-    let point : v ≡ due (h .line .promise) t = c .before .before .before .before .due .ensures in
+    let point = c .before .before .before .before .due .ensures in
     let clock : pass .result .clock .0 ≡ h .clock .0 + (v - h .clock .0) = ap (λ (x : Booth). x .clock .0) (pass .ensures .0) in
     let cap : h .clock .0 + (v - h .clock .0) ≤ due (h .line .promise) t = omega (arith, point, s .cap) in (
       record {

@@ -1,6 +1,6 @@
 -- `booth::Booth::take_next` meets its contract: the moves of the code, one after the other, are the rule's. Assumes nothing.
-use mathlib.Core.Path.{_≡_, sym, ap, _∙_, subst}
-use Prim.Native.Nat.{ℕ, _+_, _-_}
+use mathlib.Core.Path.{_≡_, refl, sym, ap, _∙_, subst}
+use Prim.Native.Nat.{ℕ, _+_, _-_, _≤_, _<_}
 use native.Mathlib.Omega.{arith}
 use lib.ListN.{length, getD, set}
 use Rattle.rules.specs.declared.Line.{Line}
@@ -9,7 +9,7 @@ use Rattle.table.specs.Fit.{Sounds}
 use Rattle.booth.specs.declared.Booth.{Booth}
 use Rattle.booth.specs.Shown.{firstOf, shown, Looked, lookingAt, demanding, clockAt}
 use Rattle.booth.proofs.Waiting.{whole-entry}
-use Rattle.booth.proofs.Taking.{added, own-task, shown-taken, fit-taken}
+use Rattle.booth.proofs.Taking.{added, own-task, room-for, shown-taken, fit-taken}
 use borrow.Author.Needs.{needs}
 use Rattle.booth.proofs.Booth.take_next.Statement.{statement}
 use Rattle.booth.proofs.Booth.take_next.Tie as tie

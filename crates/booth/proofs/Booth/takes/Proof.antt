@@ -1,4 +1,6 @@
 -- `booth::Booth::takes` meets its contract: the tests of the code are those of the rule, in its order. Assumes nothing.
+use mathlib.Core.Path.{_≡_, refl, sym}
+use native.Mathlib.Omega.{arith}
 use borrow.Author.Tests.{lt-leb, le-leb, eq-eqb, ne-eqb}
 use Rattle.booth.specs.Shown.{takesNext}
 use Rattle.booth.proofs.Booth.takes.Statement.{statement}
