@@ -1,0 +1,14 @@
+-- A session's answer in a C struct: the verdict, then a number for each booth in arrays of eight.
+use Rattle.session.specs.declared.SessionAnswer.{SessionAnswer}
+use Rattle.hallanupp.specs.declared.CSession.{CSession}
+use Rattle.hallanupp.specs.Verdicts.{inC}
+
+unfoldable pub sessionInC : SessionAnswer → CSession
+sessionInC a =
+    record {
+      verdict = inC (a .verdict);
+      booths = a .booths;
+      clocks = a .clocks;
+      worked = a .worked;
+      idle = a .idle;
+    }
