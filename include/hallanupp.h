@@ -50,6 +50,46 @@ hallanupp_verdict hallanupp_table_verdict(const uint8_t *table, size_t table_len
 /* The same for a booth table with an arrival log; where both are bad the table's verdict is given. */
 hallanupp_verdict hallanupp_files_verdict(const uint8_t *table, size_t table_len, const uint8_t *log, size_t log_len);
 
+/* The first n own ticks of a booth's solo part: what the booth plays alone, from its own line of the table and its own
+ * entries of the log. Byte u of `part` is the task that plays own tick u, or 255 with none; bytes from n on keep what
+ * they held. The table is judged first, then the log, then the call: number 9 where the table has no such booth, 11
+ * where n is more than the own ticks due by the session's end, or more than part_len. A refusal writes nothing. */
+hallanupp_verdict hallanupp_solo_part(const uint8_t *table, size_t table_len, const uint8_t *log, size_t log_len,
+                                      size_t booth, size_t n, uint8_t *part, size_t part_len);
+
+typedef struct {
+    hallanupp_verdict verdict;
+    uint64_t start; /* the row's first byte in the caller's own record */
+    uint64_t count; /* how many bytes it is long */
+} hallanupp_row;
+
+/* A booth's row of the own record that a session of h wall ticks filled: `count` bytes from booth times h, which are the
+ * caller's own, so nothing is copied: the row is own + start, count bytes long, and always lies within the record.
+ * Number 11 where the booth is above 7, h above 1,000,000, count above h, or the row would end outside; start and count
+ * are then 0. */
+hallanupp_row hallanupp_row_back(const uint8_t *own, size_t own_len, size_t h, size_t booth, size_t count);
+
+/* What a panel row reads. */
+enum {
+    HALLANUPP_NONE_YET = 0,       /* t is 0, or the call is refused */
+    HALLANUPP_BELOW = 1,          /* the booth worked less than was due */
+    HALLANUPP_AT_THE_CEILING = 2, /* exactly what was due */
+    HALLANUPP_OVER = 3            /* more than was due */
+};
+
+typedef struct {
+    hallanupp_verdict verdict;
+    double promised;  /* allowance by period */
+    double got;       /* ticks worked by t; 0 with none yet */
+    uint32_t reading; /* HALLANUPP_NONE_YET, _BELOW, _AT_THE_CEILING or _OVER */
+} hallanupp_panel_row;
+
+/* A booth's two shares after the first t wall ticks of a wall record, each one division of doubles and nothing after it,
+ * and its reading, which compares whole ticks and no doubles. The table is judged first; then number 9 where it has no
+ * such booth, and 11 where t is past the record or above 1,000,000. A refusal gives both shares 0 and none yet. */
+hallanupp_panel_row hallanupp_panel(const uint8_t *table, size_t table_len, const uint8_t *wall, size_t wall_len,
+                                    size_t booth, size_t t);
+
 #ifdef __cplusplus
 }
 #endif

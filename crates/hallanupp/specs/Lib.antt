@@ -1,1 +1,3 @@
 pub mod Verdicts
+pub mod RowInC
+pub mod PanelInC

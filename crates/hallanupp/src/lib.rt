@@ -3,6 +3,9 @@ ghost use mathlib.Core.Path.{_≡_};
 ghost use Rattle.hallanupp.specs.Verdicts.{tableVerdict, filesVerdict, inC, refusedInC};
 use rules::Refusal;
 
+mod panels;
+mod parts;
+
 // What is refused: 0 nothing, 1 the booth table, 2 the arrival log, 3 the call itself; then number and place.
 #[repr(C)]
 pub struct CVerdict {
