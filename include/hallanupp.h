@@ -50,6 +50,27 @@ hallanupp_verdict hallanupp_table_verdict(const uint8_t *table, size_t table_len
 /* The same for a booth table with an arrival log; where both are bad the table's verdict is given. */
 hallanupp_verdict hallanupp_files_verdict(const uint8_t *table, size_t table_len, const uint8_t *log, size_t log_len);
 
+/* What a session answers. For booth i, clocks[i] is its final own clock (so the length of its row) and worked[i] how
+ * many wall ticks it worked; idle is how many no booth worked. Worked and idle ticks together are H. Behind the last
+ * booth, and in a refusal everywhere, the numbers are 0.
+ */
+typedef struct {
+    hallanupp_verdict verdict;
+    uint64_t booths;
+    uint32_t clocks[8];
+    uint32_t worked[8];
+    uint32_t idle;
+} hallanupp_session_answer;
+
+/* Plays a session. Checked in order: the table, the log, then the records (number 11 at 0): the wall record needs H
+ * bytes, the own record H bytes for each booth. Accepted: wall[t] is the booth that worked at wall tick t, or 255;
+ * booth i's row begins at own + i * H and is clocks[i] bytes long, each the task that ran at that own tick, or 255.
+ * Wall bytes from H on, row bytes from clocks[i] on and bytes behind the last booth's row keep what they held. Refused:
+ * no byte of either record is changed.
+ */
+hallanupp_session_answer hallanupp_session(const uint8_t *table, size_t table_len, const uint8_t *log, size_t log_len,
+                                           uint8_t *wall, size_t wall_len, uint8_t *own, size_t own_len);
+
 /* The first n own ticks of a booth's solo part: what the booth plays alone, from its own line of the table and its own
  * entries of the log. Byte u of `part` is the task that plays own tick u, or 255 with none; bytes from n on keep what
  * they held. The table is judged first, then the log, then the call: number 9 where the table has no such booth, 11

@@ -1,3 +1,4 @@
 pub mod Verdicts
 pub mod RowInC
 pub mod PanelInC
+pub mod SessionInC
