@@ -6,7 +6,6 @@
 //! overlap nothing, and the library keeps no pointer after it returns.
 
 use crate::answers::Verdict;
-#[cfg(feature = "whole")]
 use crate::answers::{PanelRow, Row, SessionAnswer};
 
 extern "C" {
@@ -18,8 +17,6 @@ extern "C" {
         log_len: usize,
     ) -> Verdict;
 }
-
-#[cfg(feature = "whole")]
 extern "C" {
     fn hallanupp_session(
         table: *const u8,
@@ -71,7 +68,6 @@ pub fn files_verdict(table: &[u8], log: &[u8]) -> Verdict {
 }
 
 /// A whole session into the lent wall record and own record.
-#[cfg(feature = "whole")]
 pub fn session(table: &[u8], log: &[u8], wall: &mut [u8], own: &mut [u8]) -> SessionAnswer {
     // SAFETY: all four slices are valid for their lengths; the two written ones
     // are `&mut`, so they overlap nothing.
@@ -90,7 +86,6 @@ pub fn session(table: &[u8], log: &[u8], wall: &mut [u8], own: &mut [u8]) -> Ses
 }
 
 /// The first `n` own ticks of a booth's solo part into the lent buffer.
-#[cfg(feature = "whole")]
 pub fn solo_part(table: &[u8], log: &[u8], booth: usize, n: usize, part: &mut [u8]) -> Verdict {
     // SAFETY: all three slices are valid for their lengths; the written one is
     // `&mut`, so it overlaps nothing. Any booth and any n may be asked.
@@ -109,7 +104,6 @@ pub fn solo_part(table: &[u8], log: &[u8], booth: usize, n: usize, part: &mut [u
 }
 
 /// Where a booth's row stands in the caller's own record.
-#[cfg(feature = "whole")]
 pub fn row_back(own: &[u8], h: usize, booth: usize, count: usize) -> Row {
     // SAFETY: the slice is valid for its length and only read. Any H, booth and
     // count may be asked, and numbers come back, not a pointer.
@@ -117,7 +111,6 @@ pub fn row_back(own: &[u8], h: usize, booth: usize, count: usize) -> Row {
 }
 
 /// The panel row of a booth after `t` ticks of a wall record.
-#[cfg(feature = "whole")]
 pub fn panel(table: &[u8], wall: &[u8], booth: usize, t: usize) -> PanelRow {
     // SAFETY: both slices are valid for their lengths and only read. Any booth
     // and any t may be asked.

@@ -37,7 +37,6 @@ pub struct Player {
 }
 
 pub const PLAYERS: &[Player] = &[
-    #[cfg(feature = "whole")]
     Player {
         name: "the proved library",
         session: boxed::session,

@@ -1,6 +1,5 @@
 //! Rows handed back by the proved library: where they stand in the caller's own
 //! record is what the second program says.
-#![cfg(feature = "whole")]
 
 use compare::answers::{Row, CALL, NOTHING};
 use compare::boxed;

@@ -13,9 +13,7 @@ use second::random::{first_seed, Random};
 fn main() {
     println!("ratio: the proved library's time over the fast program's, medians of one run");
     readers();
-    #[cfg(feature = "whole")]
     whole::sessions();
-    #[cfg(feature = "whole")]
     whole::solo_parts_and_panels();
 }
 
@@ -43,7 +41,6 @@ fn full_table(work: &str, table: &[u8]) {
 }
 
 /// What the library answers beyond verdicts, on the largest sessions.
-#[cfg(feature = "whole")]
 mod whole {
     use std::hint::black_box;
 
