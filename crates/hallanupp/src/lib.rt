@@ -30,15 +30,15 @@ pub extern "C" fn hallanupp_table_verdict(table: &[u8]) -> CVerdict
     ensures { λ r. ⌜ r ≡ inC (tableVerdict (now (table .entry))) ⌝ }
 {
     let read = table::read_table(table);
-    let refusal = read.refusal;
-    if refusal.number != 0 {
-        return c_verdict(1, refusal);
+    let found = read.refusal;
+    if found.number != 0 {
+        return c_verdict(1, found);
     }
-    let none = Refusal {
+    let nothing = Refusal {
         number: 0,
         place: 0,
     };
-    c_verdict(0, none)
+    c_verdict(0, nothing)
 }
 
 #[no_mangle]
