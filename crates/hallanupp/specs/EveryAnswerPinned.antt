@@ -28,8 +28,8 @@ pub record FilesVerdict (table log : List ℕ) (r : CVerdict) : Type 0 where
 -- the records as lent, the answer, and the records as they are left
 pub record Session (table log wall own : List ℕ) (r : CSession) (wallLeft ownLeft : List ℕ) : Type 0 where
   pub answer : r ≡ sessionInC (answered (page.session table log wall own))
-  pub wall : wallLeft ≡ (page.session table log wall own) .wall
-  pub own : ownLeft ≡ (page.session table log wall own) .own
+  pub wall-record : wallLeft ≡ (page.session table log wall own) .wall
+  pub own-record : ownLeft ≡ (page.session table log wall own) .own
 
 pub record SoloPart (table log : List ℕ) (booth n : ℕ) (part : List ℕ) (r : CVerdict) (partLeft : List ℕ) : Type 0 where
   pub verdict : r ≡ inC ((askSolo table log booth n part) .verdict)
@@ -37,7 +37,7 @@ pub record SoloPart (table log : List ℕ) (booth n : ℕ) (part : List ℕ) (r 
 
 pub record RowBack (own : List ℕ) (H booth n : ℕ) (r : CRow) : Type 0 where
   pub row : r ≡ rowInC H booth n ((rowBack own H booth n) .verdict)
-  pub part : take (r .count) (drop (r .start) own) ≡ (rowBack own H booth n) .part
+  pub handed : take (r .count) (drop (r .start) own) ≡ (rowBack own H booth n) .part
 
 pub record Panel (table wall : List ℕ) (booth t : ℕ) (r : CPanelRow) : Type 0 where
   pub answer : r ≡ panelInC (shares.panel table wall booth t)
