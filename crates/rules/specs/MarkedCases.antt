@@ -26,6 +26,8 @@ use Rattle.rules.specs.RowBack
 use Rattle.rules.specs.RowBack.{RowAnswer, rowBack}
 use Rattle.rules.specs.Panel
 use Rattle.rules.specs.Panel.{PanelRow, none-yet, below, at-ceiling, panel}
+use Rattle.rules.specs.Desk
+use Rattle.rules.specs.Desk.{deskText}
 
 -- what is asked of the rules, and the whole of what they answer
 pub data Question : Type 0 where
@@ -35,6 +37,7 @@ pub data Question : Type 0 where
   the-solo : List ℕ → List ℕ → ℕ → ℕ → List ℕ → Question
   the-row : List ℕ → ℕ → ℕ → ℕ → Question
   the-panel : List ℕ → List ℕ → ℕ → ℕ → Question
+  the-desk : List ℕ → Question
 
 pub data Answer : Type 0 where
   plays : Outcome → Answer
@@ -43,6 +46,7 @@ pub data Answer : Type 0 where
   plays-alone : SoloOutcome → Answer
   hands-back : RowAnswer → Answer
   shows : PanelRow → Answer
+  prints : List ℕ → Answer
 
 unfoldable pub answer : Question → Answer
 answer (the-session table log wall own) = plays (session table log wall own)
@@ -51,6 +55,7 @@ answer (the-due p t) = own-tick (due p t)
 answer (the-solo table log booth n buffer) = plays-alone (askSolo table log booth n buffer)
 answer (the-row own H booth n) = hands-back (rowBack own H booth n)
 answer (the-panel table wall booth t) = shows (panel table wall booth t)
+answer (the-desk input) = prints (deskText input)
 
 pub record Case : Type 0 where
   pub asks : Question
@@ -130,6 +135,9 @@ cases =
     -- M1: booth 1's solo part, and its row handed back
     ∷ case (the-solo audition auditionLog 1 6 (lent 7)) (plays-alone (record { verdict = accepted; buffer = 1 ∷ 1 ∷ 0 ∷ 1 ∷ 255 ∷ 255 ∷ 170 ∷ [] }))
     ∷ case (the-row auditionOwn 12 1 6) (hands-back (record { verdict = accepted; part = 1 ∷ 1 ∷ 0 ∷ 1 ∷ 255 ∷ 255 ∷ [] }))
+    -- M1 and M4: the desk's text
+    ∷ case (the-desk (audition ++ auditionLog)) (prints (97 ∷ 100 ∷ 109 ∷ 105 ∷ 116 ∷ 116 ∷ 101 ∷ 100 ∷ 32 ∷ 50 ∷ 10 ∷ 119 ∷ 97 ∷ 108 ∷ 108 ∷ 32 ∷ 49 ∷ 48 ∷ 49 ∷ 49 ∷ 49 ∷ 48 ∷ 46 ∷ 46 ∷ 46 ∷ 46 ∷ 46 ∷ 46 ∷ 10 ∷ 98 ∷ 111 ∷ 111 ∷ 116 ∷ 104 ∷ 32 ∷ 48 ∷ 32 ∷ 111 ∷ 119 ∷ 110 ∷ 32 ∷ 54 ∷ 32 ∷ 119 ∷ 111 ∷ 114 ∷ 107 ∷ 101 ∷ 100 ∷ 32 ∷ 50 ∷ 32 ∷ 46 ∷ 48 ∷ 48 ∷ 46 ∷ 46 ∷ 46 ∷ 10 ∷ 98 ∷ 111 ∷ 111 ∷ 116 ∷ 104 ∷ 32 ∷ 49 ∷ 32 ∷ 111 ∷ 119 ∷ 110 ∷ 32 ∷ 54 ∷ 32 ∷ 119 ∷ 111 ∷ 114 ∷ 107 ∷ 101 ∷ 100 ∷ 32 ∷ 52 ∷ 32 ∷ 49 ∷ 49 ∷ 48 ∷ 49 ∷ 46 ∷ 46 ∷ 10 ∷ 105 ∷ 100 ∷ 108 ∷ 101 ∷ 32 ∷ 54 ∷ 10 ∷ []))
+    ∷ case (the-desk (tableWith 7 ++ auditionLog)) (prints (114 ∷ 101 ∷ 102 ∷ 117 ∷ 115 ∷ 101 ∷ 100 ∷ 32 ∷ 116 ∷ 97 ∷ 98 ∷ 108 ∷ 101 ∷ 32 ∷ 55 ∷ 32 ∷ 97 ∷ 116 ∷ 32 ∷ 49 ∷ 48 ∷ 10 ∷ []))
     -- M2: without booth 0's entry row 1 is the same
     ∷ case (the-session audition otherLog (lent 12) (lent 24))
     (plays (record {
@@ -194,5 +202,6 @@ unfolding
     SoloPart.asked SoloPart.firstThat SoloPart.solo SoloPart.soloChecks askSolo
     RowBack.rowChecks rowBack
     Panel.share Panel.no-share Panel.readingOf Panel.panelRow Panel.noPanel Panel.panelChecks panel
+    Desk.digits Desk.decimal Desk.labelled Desk.letter Desk.numberLine Desk.recordLine Desk.refusedLine Desk.boothLine Desk.boothLines Desk.admittedText Desk.outcomeText Desk.tableEnd Desk.sessionText deskText
     div ofInt ofBits round
 marked = refl
