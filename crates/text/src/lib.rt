@@ -106,3 +106,32 @@ fn booth_line(out: &mut [u8], at: usize, booth: usize, clock: usize, worked: usi
     let third = put_labelled(&mut out[..], second, b" worked ", worked);
     record_line(out, third, b" ", row)
 }
+
+// A line for each booth, with its row as it is handed back.
+fn booth_lines(out: &mut [u8], at: usize, answer: SessionAnswer, own: &[u8], h: usize) -> usize
+    requires { ⌜ (answer .booths ≤ 8) × (h ≤ 2000) × (at + answer .booths * 2081 ≤ length (now out)) ⌝ }
+    ensures { λ r. ⌜ Put at (page.boothLines (answer .booths) h (answer .clocks) (answer .worked) (now (own .entry))) (now (out .entry)) (now (out .exit)) r ⌝ }
+{
+    let n = answer.booths;
+    let clocks = answer.clocks;
+    let worked = answer.worked;
+    let mut next = at;
+    let mut i = 0;
+    while i < n {
+        let clock = clocks[i] as usize;
+        let row = panel::row_back(own, h, i, clock);
+        next = booth_line(&mut out[..], next, i, clock, worked[i] as usize, row);
+        i += 1;
+    }
+    next
+}
+
+fn admitted_text(out: &mut [u8], answer: SessionAnswer, wall: &[u8], own: &[u8], h: usize) -> usize
+    requires { ⌜ (answer .booths ≤ 8) × (h ≤ 2000) × (h ≤ length (now wall)) × (18710 ≤ length (now out)) ⌝ }
+    ensures { λ r. ⌜ Put 0 (answerText h answer (now (wall .entry)) (now (own .entry))) (now (out .entry)) (now (out .exit)) r ⌝ }
+{
+    let first = number_line(&mut out[..], 0, b"admitted ", answer.booths);
+    let second = record_line(&mut out[..], first, b"wall ", &wall[..h]);
+    let third = booth_lines(&mut out[..], second, answer, own, h);
+    number_line(out, third, b"idle ", answer.idle as usize)
+}
