@@ -135,3 +135,59 @@ fn admitted_text(out: &mut [u8], answer: SessionAnswer, wall: &[u8], own: &[u8],
     let third = booth_lines(&mut out[..], second, answer, own, h);
     number_line(out, third, b"idle ", answer.idle as usize)
 }
+
+// The session of a table and a log in records of the desk's own, as text.
+fn session_text(out: &mut [u8], table: &[u8], log: &[u8]) -> usize
+    requires { ⌜ 18710 ≤ length (now out) ⌝ }
+    ensures { λ r. ⌜ Put 0 (page.sessionText (now (table .entry)) (now (log .entry))) (now (out .entry)) (now (out .exit)) r ⌝ }
+{
+    let mut wall = [0u8; 2000];
+    let mut own = [0u8; 16000];
+    let answer = session::session(table, log, &mut wall, &mut own);
+    let verdict = answer.verdict;
+    let refusal = verdict.refusal;
+    let refused = verdict.refused;
+    match refused {
+        Refused::TheTable => refused_line(out, b"table ", refusal),
+        Refused::TheLog => refused_line(out, b"log ", refusal),
+        Refused::TheCall => refused_line(out, b"session ", refusal),
+        Refused::Nothing => {
+            let h = rules::number32(log, 5) as usize;
+            admitted_text(out, answer, &wall, &own, h)
+        }
+    }
+}
+
+// The table ends where its N says, or where the input ends.
+fn table_end(input: &[u8]) -> usize
+    ensures { λ r. ⌜ (r ≡ page.tableEnd (now (input .entry))) × (r ≤ length (now (input .entry))) ⌝ }
+{
+    let all = input.len();
+    if all < 3 {
+        return all;
+    }
+    let end = 3 + rules::number16(input, 1) as usize;
+    if end < all {
+        return end;
+    }
+    all
+}
+
+// What the desk prints for any input, at the start of a buffer of at least 18,710 bytes; how many bytes there are of it.
+pub fn desk_text(input: &[u8], out: &mut [u8]) -> usize
+    ensures length { λ r. ⌜ r ≡ textLength (now (input .entry)) (now (out .entry)) ⌝ }
+    ensures text { λ r. ⌜ now (out .exit) ≡ withText (now (input .entry)) (now (out .entry)) ⌝ }
+{
+    if out.len() < 18710 {
+        return 0;
+    }
+    if 37044 < input.len() {
+        let refusal = Refusal {
+            number: 12,
+            place: 37044,
+        };
+        return refused_line(out, b"input ", refusal);
+    }
+    let end = table_end(input);
+    session_text(out, &input[..end], &input[end..])
+}
