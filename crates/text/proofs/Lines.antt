@@ -41,17 +41,30 @@ booth-line-length own H i u worked h =
     let last = page.recordLine page.space row in
     let third = page.labelled page.word-worked worked ++ last in
     let second = page.labelled page.word-own u ++ third in
-    omega (arith, h, row-short own H i u, record-line-length page.space row, length-append (page.labelled page.word-booth i) second,
-    length-append (page.labelled page.word-own u) third, length-append (page.labelled page.word-worked worked) last, labelled-length page.word-booth i,
-    labelled-length page.word-own u, labelled-length page.word-worked worked)
+    omega (
+      arith,
+      h,
+      row-short own H i u,
+      record-line-length page.space row,
+      length-append (page.labelled page.word-booth i) second,
+      length-append (page.labelled page.word-own u) third,
+      length-append (page.labelled page.word-worked worked) last,
+      labelled-length page.word-booth i,
+      labelled-length page.word-own u,
+      labelled-length page.word-worked worked,
+    )
 
 pub booth-lines-length : (n H : ℕ) (clocks worked own : List ℕ) → H ≤ 2000 → length (page.boothLines n H clocks worked own) ≤ n * 2081
 unfolding page.boothLines
 booth-lines-length zero H clocks worked own h = omega arith
 booth-lines-length (suc i) H clocks worked own h =
     let u = getD clocks i 0 in
-    omega (arith, length-append (page.boothLines i H clocks worked own) (page.boothLine i u (getD worked i 0) ((rowBack own H i u) .part)),
-    booth-lines-length i H clocks worked own h, booth-line-length own H i u (getD worked i 0) h)
+    omega (
+      arith,
+      length-append (page.boothLines i H clocks worked own) (page.boothLine i u (getD worked i 0) ((rowBack own H i u) .part)),
+      booth-lines-length i H clocks worked own h,
+      booth-line-length own H i u (getD worked i 0) h,
+    )
 
 pub booth-lines-more : (i H : ℕ) (clocks worked own : List ℕ)
     → page.boothLines (i + 1) H clocks worked own ≡ page.boothLines i H clocks worked own ++ page.boothLine i (getD clocks i 0) (getD worked i 0) ((rowBack own H i (getD clocks i 0)) .part)

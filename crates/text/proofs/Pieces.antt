@@ -31,11 +31,11 @@ module _ (at : ℕ) (xs ys lent : List ℕ) (inside : at ≤ length lent) where
       let grouped : before ++ (xs ++ rest) ≡ (before ++ xs) ++ rest = sym (append-assoc before xs rest) in
       let whole : n + length ys ≡ at + length (xs ++ ys) = omega (arith, length-append xs ys) in
       let tail : drop (n + length ys) (before ++ (xs ++ rest)) ≡ drop (at + length (xs ++ ys)) lent =
-          ap (drop (n + length ys)) grouped
-          ∙ sym (drop-drop (length ys) n ((before ++ xs) ++ rest))
-          ∙ ap (drop (length ys)) (drop-at (before ++ xs) rest n head-length)
-          ∙ drop-drop (length ys) n lent
-          ∙ ap (λ k. drop k lent) whole in
+      ap (drop (n + length ys)) grouped
+      ∙ sym (drop-drop (length ys) n ((before ++ xs) ++ rest))
+      ∙ ap (drop (length ys)) (drop-at (before ++ xs) rest n head-length)
+      ∙ drop-drop (length ys) n lent
+      ∙ ap (λ k. drop k lent) whole in
       ap (λ l. take n l ++ (ys ++ drop (n + length ys) (before ++ (xs ++ rest)))) grouped
       ∙ ap (λ l. l ++ (ys ++ drop (n + length ys) (before ++ (xs ++ rest)))) (take-at (before ++ xs) rest n head-length)
       ∙ ap (λ l. (before ++ xs) ++ (ys ++ l)) tail

@@ -66,8 +66,13 @@ module _ (table log wall own : List ℕ) where
           whole = omega (arith, known .whole);
           short = omega (arith, known .horizon, w);
           few =
-              omega (arith, ap (λ o. length (o .clocks)) (plays table log wall own ls q l p w o), length-map ((settledAt (l .horizon) ls (l .entries)) .booths) (λ b. b .u),
-              length-booths ls (l .entries) (l .horizon), (read-lines table ls ((read-table table ls q) .0)) .few-booths);
+              omega (
+                arith,
+                ap (λ o. length (o .clocks)) (plays table log wall own ls q l p w o),
+                length-map ((settledAt (l .horizon) ls (l .entries)) .booths) (λ b. b .u),
+                length-booths ls (l .entries) (l .horizon),
+                (read-lines table ls ((read-table table ls q) .0)) .few-booths,
+              );
         }
 
     pub fits : Fits log wall (session table log wall own)
@@ -192,4 +197,4 @@ module _ (table log : List ℕ) where
       let o = desk-outcome table log in
       let same : o .verdict ≡ a .verdict = sym (ap (λ x. x .verdict) e) in
       let f = fits table log (replicate 2000 0) (replicate 16000 0) (ap (λ v. v .refused) same ∙ h) in
-      (f .whole, omega (arith, f .short, length-replicate 2000 0), omega (arith, f .few, ap (λ x. x .booths) e))
+      (f .whole, omega (arith, f .short, length-replicate {A = ℕ} 2000 0), omega (arith, f .few, ap (λ x. x .booths) e))

@@ -97,7 +97,14 @@ fn refused_line(out: &mut [u8], what: &[u8], refusal: Refusal) -> usize
     number_line(out, next, b" at ", refusal.place)
 }
 
-fn booth_line(out: &mut [u8], at: usize, booth: usize, clock: usize, worked: usize, row: &[u8]) -> usize
+fn booth_line(
+    out: &mut [u8],
+    at: usize,
+    booth: usize,
+    clock: usize,
+    worked: usize,
+    row: &[u8],
+) -> usize
     requires { ⌜ at + 81 + length (now row) ≤ length (now out) ⌝ }
     ensures { λ r. ⌜ Put at (page.boothLine booth clock worked (now (row .entry))) (now (out .entry)) (now (out .exit)) r ⌝ }
 {

@@ -32,7 +32,7 @@ put-digits-returns :
     (put-digits-below t, put-digits.Post)
     (put-digits-at t)
     put-digits.Post
-put-digits-returns t c = 
+put-digits-returns t c =
     let st = c .before .before in
     subst (λ l. Put (st .args .at) l (st .args .out .now) (st .args .out .now) (st .args .at)) (sym (no-digits (st .args .most) (st .args .n) (c .if1 .taken)))
     (put-nothing (st .args .at) (st .args .out .now) (omega (arith, st .pre .1)))
@@ -81,7 +81,7 @@ put-digits-returns-2 : (t : ℕ) → put-digits-lts.Need-returns-2 (
   put-digits-below t,
   put-digits.Post,
 ) (put-digits-at t) put-digits.Post
-put-digits-returns-2 t c = 
+put-digits-returns-2 t c =
     let st = c .before .before .before in
     subst (λ l. Put (st .args .at) l (st .args .out .now) (set (st .args .out .now) (st .args .at) (48 + st .args .n)) (st .args .at + 1))
     (sym (one-digit (st .args .most) (st .args .n) (omega arith) (c .if2 .taken)))
@@ -120,7 +120,7 @@ put-digits-slice-write-out-2 : (t : ℕ) → put-digits-lts.Need-slice-write-out
   put-digits-below t,
   put-digits.Post,
 ) (put-digits-at t) put-digits.Post
-put-digits-slice-write-out-2 t c = 
+put-digits-slice-write-out-2 t c =
     let st = c .before .before .before .before .before .before .before in
     let less : st .args .most - 1 < st .args .most = omega arith in
     omega (arith, st .pre .1, c .before .before .put-digits .ensures .behind, few-digits (st .args .most - 1) (st .args .n / 10), c .before .before .put-digits .kept .0, less)
@@ -130,7 +130,7 @@ put-digits-add-result-2 : (t : ℕ) → put-digits-lts.Need-add-result-2 (
   put-digits-below t,
   put-digits.Post,
 ) (put-digits-at t) put-digits.Post
-put-digits-add-result-2 t c = 
+put-digits-add-result-2 t c =
     let st = c .before .before .before .before .before .before .before in
     let less : st .args .most - 1 < st .args .most = omega arith in
     omega (arith, st .pre .1, c .before .before .put-digits .ensures .behind, few-digits (st .args .most - 1) (st .args .n / 10), less)
@@ -140,7 +140,7 @@ put-digits-same-length-2 : (t : ℕ) → put-digits-lts.Need-same-length-2 (
   put-digits-below t,
   put-digits.Post,
 ) (put-digits-at t) put-digits.Post
-put-digits-same-length-2 t c = 
+put-digits-same-length-2 t c =
     let st = c .before .before .before .before .before .before .before in
     let p = c .before .before .put-digits in
     length-set (p .last .0) (p .result) (48 + st .args .n % 10) ∙ p .kept .0
@@ -150,7 +150,7 @@ put-digits-returns-3 : (t : ℕ) → put-digits-lts.Need-returns-3 (
   put-digits-below t,
   put-digits.Post,
 ) (put-digits-at t) put-digits.Post
-put-digits-returns-3 t c = 
+put-digits-returns-3 t c =
     let st = c .before .before .before .before .before .before .before in
     let p = c .before .before .put-digits in
     let less : st .args .most - 1 < st .args .most = omega arith in

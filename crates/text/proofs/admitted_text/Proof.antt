@@ -34,21 +34,41 @@ slice-aggregate-record-line-2 c = sym (length-take-le (c .before .before .before
 
 -- src/lib.rt:134:9
 record-line-requires : tie.Need-record-line-requires
-record-line-requires c κs = 
+record-line-requires c κs =
     let st = c .before .before .before .before .before .before .before .before .before .before .before in
     let first = c .before .before .before .before .before .number-line in
-    omega (arith, st .pre .1, st .pre .3, first .ensures .behind, number-line-length page.word-admitted (st .args .answer .booths), first .kept .0,
-    length-take-le (st .args .h) (st .args .wall .now) (st .pre .2))
+    omega (
+      arith,
+      st .pre .1,
+      st .pre .3,
+      first .ensures .behind,
+      number-line-length page.word-admitted (st .args .answer .booths),
+      first .kept .0,
+      length-take-le (st .args .h) (st .args .wall .now) (st .pre .2),
+    )
 
 -- src/lib.rt:135:9
 booth-lines-requires : tie.Need-booth-lines-requires
-booth-lines-requires c κs = 
+booth-lines-requires c κs =
     let st = c .before .before .before .before .before .before .before .before .before .before .before .before .before .before .before in
     let first = c .before .before .before .before .before .before .before .before .before .number-line in
-    let second = c .before .before .before .record-line in
-    (st .pre .0, st .pre .1,
-    omega (arith, st .pre .0, st .pre .1, st .pre .3, first .ensures .behind, number-line-length page.word-admitted (st .args .answer .booths), first .kept .0,
-    second .ensures .behind, record-line-length page.word-wall (take (st .args .h) (st .args .wall .now)), length-take-le (st .args .h) (st .args .wall .now) (st .pre .2), second .kept .0))
+    let second = c .before .before .before .record-line in (
+      st .pre .0,
+      st .pre .1,
+      omega (
+        arith,
+        st .pre .0,
+        st .pre .1,
+        st .pre .3,
+        first .ensures .behind,
+        number-line-length page.word-admitted (st .args .answer .booths),
+        first .kept .0,
+        second .ensures .behind,
+        record-line-length page.word-wall (take (st .args .h) (st .args .wall .now)),
+        length-take-le (st .args .h) (st .args .wall .now) (st .pre .2),
+        second .kept .0,
+      ),
+    )
 
 -- src/lib.rt:136:29
 slice-aggregate-number-line-2 : tie.Need-slice-aggregate-number-line-2
@@ -60,14 +80,27 @@ cast-number-line c = search needs
 
 -- src/lib.rt:136:5
 number-line-requires-2 : tie.Need-number-line-requires-2
-number-line-requires-2 c κs = 
+number-line-requires-2 c κs =
     let st = c .before .before .before .before .before .before .before .before .before .before .before .before .before .before .before .before .before .before .before .before .before in
     let first = c .before .before .before .before .before .before .before .before .before .before .before .before .before .before .before .number-line in
     let second = c .before .before .before .before .before .before .before .before .before .record-line in
     let third = c .before .before .before .before .before .booth-lines in
-    omega (arith, st .pre .0, st .pre .1, st .pre .3, first .ensures .behind, number-line-length page.word-admitted (st .args .answer .booths), first .kept .0,
-    second .ensures .behind, record-line-length page.word-wall (take (st .args .h) (st .args .wall .now)), length-take-le (st .args .h) (st .args .wall .now) (st .pre .2), second .kept .0,
-    third .ensures .behind, booth-lines-length (st .args .answer .booths) (st .args .h) (st .args .answer .clocks) (st .args .answer .worked) (st .args .own .now) (st .pre .1), third .kept .0)
+    omega (
+      arith,
+      st .pre .0,
+      st .pre .1,
+      st .pre .3,
+      first .ensures .behind,
+      number-line-length page.word-admitted (st .args .answer .booths),
+      first .kept .0,
+      second .ensures .behind,
+      record-line-length page.word-wall (take (st .args .h) (st .args .wall .now)),
+      length-take-le (st .args .h) (st .args .wall .now) (st .pre .2),
+      second .kept .0,
+      third .ensures .behind,
+      booth-lines-length (st .args .answer .booths) (st .args .h) (st .args .answer .clocks) (st .args .answer .worked) (st .args .own .now) (st .pre .1),
+      third .kept .0,
+    )
 
 -- src/lib.rt:129:1
 same-length : tie.Need-same-length

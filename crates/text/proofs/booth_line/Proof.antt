@@ -27,7 +27,7 @@ slice-aggregate-put-labelled-2 c = search needs
 
 -- src/lib.rt:105:9
 put-labelled-requires-2 : tie.Need-put-labelled-requires-2
-put-labelled-requires-2 c κs = 
+put-labelled-requires-2 c κs =
     let st = c .before .before .before .before .before .before .before .before .before in
     let first = c .before .before .before .before .put-labelled in
     omega (arith, st .pre, first .ensures .behind, labelled-length page.word-booth (st .args .booth), first .kept .0)
@@ -38,7 +38,7 @@ slice-aggregate-put-labelled-3 c = search needs
 
 -- src/lib.rt:106:9
 put-labelled-requires-3 : tie.Need-put-labelled-requires-3
-put-labelled-requires-3 c κs = 
+put-labelled-requires-3 c κs =
     let st = c .before .before .before .before .before .before .before .before .before .before .before .before .before .before in
     let first = c .before .before .before .before .before .before .before .before .before .put-labelled in
     let second = c .before .before .before .before .put-labelled2 in
@@ -50,13 +50,24 @@ slice-aggregate-record-line c = search needs
 
 -- src/lib.rt:107:5
 record-line-requires : tie.Need-record-line-requires
-record-line-requires c κs = 
+record-line-requires c κs =
     let st = c .before .before .before .before .before .before .before .before .before .before .before .before .before .before .before .before .before .before .before in
     let first = c .before .before .before .before .before .before .before .before .before .before .before .before .before .before .put-labelled in
     let second = c .before .before .before .before .before .before .before .before .before .put-labelled2 in
     let third = c .before .before .before .before .put-labelled3 in
-    omega (arith, st .pre, first .ensures .behind, labelled-length page.word-booth (st .args .booth), first .kept .0, second .ensures .behind, labelled-length page.word-own (st .args .clock), second .kept .0,
-    third .ensures .behind, labelled-length page.word-worked (st .args .worked), third .kept .0)
+    omega (
+      arith,
+      st .pre,
+      first .ensures .behind,
+      labelled-length page.word-booth (st .args .booth),
+      first .kept .0,
+      second .ensures .behind,
+      labelled-length page.word-own (st .args .clock),
+      second .kept .0,
+      third .ensures .behind,
+      labelled-length page.word-worked (st .args .worked),
+      third .kept .0,
+    )
 
 -- src/lib.rt:100:1
 same-length : tie.Need-same-length

@@ -58,14 +58,21 @@ cast-booth-line c = search needs
 
 -- src/lib.rt:123:9
 booth-line-requires : tie.Need-booth-line-requires Inv-loop μ-loop
-booth-line-requires c κs = 
+booth-line-requires c κs =
     let st = c .before .before .before .before .before .before .before .before in
     let at = c .before .before .before .loop in
     let u = getD (st .args .answer .clocks) (at .i) 0 in
     let row : length (c .before .row-back .result .now) ≤ st .args .h =
-        subst (λ l. length l ≤ st .args .h) (sym (c .before .row-back .ensures)) (row-short (st .args .own .now) (st .args .h) (at .i) u) in
-    omega (arith, st .pre .1, st .pre .2, at .inv .1, at .inv .2 .behind, row,
-    booth-lines-length (at .i) (st .args .h) (st .args .answer .clocks) (st .args .answer .worked) (st .args .own .now) (st .pre .1))
+    subst (λ l. length l ≤ st .args .h) (sym (c .before .row-back .ensures)) (row-short (st .args .own .now) (st .args .h) (at .i) u) in
+    omega (
+      arith,
+      st .pre .1,
+      st .pre .2,
+      at .inv .1,
+      at .inv .2 .behind,
+      row,
+      booth-lines-length (at .i) (st .args .h) (st .args .answer .clocks) (st .args .answer .worked) (st .args .own .now) (st .pre .1),
+    )
 
 -- src/lib.rt:124:9
 add-i : tie.Need-add-i Inv-loop μ-loop
@@ -77,17 +84,18 @@ loop-less c = omega arith
 
 -- src/lib.rt:120:5
 loop-again : tie.Need-loop-again Inv-loop μ-loop
-loop-again c = 
+loop-again c =
     let st = c .before .before .before .before .before .before .before .before .before .before .before in
     let at = c .before .before .before .before .before .before .loop in
     let line = c .before .before .booth-line in
     let u = getD (st .args .answer .clocks) (at .i) 0 in
     let put : Put (at .next) (page.boothLine (at .i) u (getD (st .args .answer .worked) (at .i) 0) ((rowBack (st .args .own .now) (st .args .h) (at .i) u) .part)) (at .out) (line .last .0) (line .result) =
-        subst (λ l. Put (at .next) (page.boothLine (at .i) u (getD (st .args .answer .worked) (at .i) 0) l) (at .out) (line .last .0) (line .result)) (c .before .before .before .before .row-back .ensures) (line .ensures) in
-    (omega arith,
-    line .kept .0 ∙ at .inv .1,
-    subst (λ l. Put (st .args .at) l (st .args .out .now) (line .last .0) (line .result))
-    (sym (booth-lines-more (at .i) (st .args .h) (st .args .answer .clocks) (st .args .answer .worked) (st .args .own .now))) (then (at .inv .2) put))
+    subst (λ l. Put (at .next) (page.boothLine (at .i) u (getD (st .args .answer .worked) (at .i) 0) l) (at .out) (line .last .0) (line .result)) (c .before .before .before .before .row-back .ensures) (line .ensures) in (
+      omega arith,
+      line .kept .0 ∙ at .inv .1,
+      subst (λ l. Put (st .args .at) l (st .args .out .now) (line .last .0) (line .result))
+          (sym (booth-lines-more (at .i) (st .args .h) (st .args .answer .clocks) (st .args .answer .worked) (st .args .own .now))) (then (at .inv .2) put),
+    )
 
 -- src/lib.rt:111:1
 same-length : tie.Need-same-length Inv-loop μ-loop
@@ -95,7 +103,7 @@ same-length c = c .before .loop .inv .1
 
 -- src/lib.rt:111:1
 returns : tie.Need-returns Inv-loop μ-loop
-returns c = 
+returns c =
     let st = c .before .before .before .before .before .before in
     let at = c .before .loop in
     let all : at .i ≡ st .args .answer .booths = omega arith in

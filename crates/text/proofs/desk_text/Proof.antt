@@ -35,7 +35,7 @@ same-length c = search needs
 -- src/lib.rt:189:9
 returns-2 : tie.Need-returns-2
 unfolding refusal
-returns-2 c = 
+returns-2 c =
     let st = c .before .before .before .before .before .before .before .before .before in
     let line = c .before .before .refused-line in
     text-put (st .args .input .now) _ (st .args .out .now) (line .last .0) (line .result) (c .before .before .before .before .before .before .if1 .left) (too-long (st .args .input .now) (c .before .before .before .before .before .if2 .taken)) (line .ensures)
@@ -70,7 +70,7 @@ same-length-2 c = search needs
 
 -- src/lib.rt:177:1
 returns-3 : tie.Need-returns-3
-returns-3 c = 
+returns-3 c =
     let st = c .before .before .before .before .before .before .before .before .before .before .before in
     let text = c .before .before .session-text in
     let end = c .before .before .before .before .before .before .table-end in

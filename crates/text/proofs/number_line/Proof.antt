@@ -23,7 +23,7 @@ slice-aggregate-put c = search needs
 
 -- src/lib.rt:79:5
 put-requires : tie.Need-put-requires
-put-requires c κs = 
+put-requires c κs =
     let st = c .before .before .before .before .before .before .before .before in
     let first = c .before .before .before .before .put-labelled in
     omega (arith, st .pre, first .ensures .behind, labelled-length (st .args .word .now) (st .args .n), first .kept .0)

@@ -37,12 +37,13 @@ loop-less : tie.Need-loop-less Inv-loop μ-loop
 loop-less c = omega arith
 
 loop-again : tie.Need-loop-again Inv-loop μ-loop
-loop-again c = 
+loop-again c =
     let st = c .before .before .before in
-    let at = c .before .before .loop in
-    (omega arith,
-    length-set (at .out) (st .args .at + at .i) (getD (st .args .bytes .now) (at .i) 0) ∙ at .inv .1,
-    push-next (st .args .bytes .now) (omega arith) (at .inv .2) (omega (arith, st .pre)))
+    let at = c .before .before .loop in (
+      omega arith,
+      length-set (at .out) (st .args .at + at .i) (getD (st .args .bytes .now) (at .i) 0) ∙ at .inv .1,
+      push-next (st .args .bytes .now) (omega arith) (at .inv .2) (omega (arith, st .pre)),
+    )
 
 add-result : tie.Need-add-result Inv-loop μ-loop
 add-result c = omega (arith, c .before .before .pre)

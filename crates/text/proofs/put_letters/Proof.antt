@@ -52,16 +52,17 @@ loop-less c = omega arith
 
 -- src/lib.rt:37:5
 loop-again : tie.Need-loop-again Inv-loop μ-loop
-loop-again c = 
+loop-again c =
     let st = c .before .before .before .before .before .before in
     let at = c .before .before .before .loop in
     let kept = st .args .kept .now in
     let there : at .i < length kept = omega arith in
-    let is : getD (map page.letter kept) (at .i) 0 ≡ c .letter .result = getD-map page.letter kept (at .i) 0 0 there ∙ sym (c .letter .ensures) in
-    (omega arith,
-    length-set (at .out) (st .args .at + at .i) (c .letter .result) ∙ at .inv .1,
-    subst (λ x. Put (st .args .at) (take (at .i + 1) (map page.letter kept)) (st .args .out .now) (set (at .out) (st .args .at + at .i) x) (st .args .at + (at .i + 1))) is
-    (push-next (map page.letter kept) (omega (arith, length-map kept page.letter, there)) (at .inv .2) (omega (arith, st .pre))))
+    let is : getD (map page.letter kept) (at .i) 0 ≡ c .letter .result = getD-map page.letter kept (at .i) 0 0 there ∙ sym (c .letter .ensures) in (
+      omega arith,
+      length-set (at .out) (st .args .at + at .i) (c .letter .result) ∙ at .inv .1,
+      subst (λ x. Put (st .args .at) (take (at .i + 1) (map page.letter kept)) (st .args .out .now) (set (at .out) (st .args .at + at .i) x) (st .args .at + (at .i + 1))) is
+          (push-next (map page.letter kept) (omega (arith, length-map kept page.letter, there)) (at .inv .2) (omega (arith, st .pre))),
+    )
 
 -- src/lib.rt:41:5
 add-result : tie.Need-add-result Inv-loop μ-loop
@@ -73,7 +74,7 @@ same-length c = c .before .loop .inv .1
 
 -- src/lib.rt:32:1
 returns : tie.Need-returns Inv-loop μ-loop
-returns c = 
+returns c =
     let kept = c .before .before .before .before .args .kept .now in
     put-last (map page.letter kept) (omega (arith, length-map kept page.letter)) (c .before .loop .inv .2)
 

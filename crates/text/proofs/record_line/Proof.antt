@@ -27,7 +27,7 @@ slice-aggregate-put c = search needs
 
 -- src/lib.rt:88:5
 put-requires-2 : tie.Need-put-requires-2
-put-requires-2 c κs = 
+put-requires-2 c κs =
     let st = c .before .before .before .before .before .before .before .before .before .before .before .before .before in
     let first = c .before .before .before .before .before .before .before .before .put in
     let next = c .before .before .before .before .put-letters in

@@ -36,7 +36,7 @@ slice-aggregate-number-line c = search needs
 
 -- src/lib.rt:97:5
 number-line-requires : tie.Need-number-line-requires
-number-line-requires c κs = 
+number-line-requires c κs =
     let st = c .before .before .before .before .before .before .before .before .before .before .before .before .before .before in
     let first = c .before .before .before .before .before .before .before .before .before .put in
     let next = c .before .before .before .before .put-labelled in

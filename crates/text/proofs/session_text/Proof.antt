@@ -1,3 +1,14 @@
+-- `text::session_text` meets its contract. Assumes nothing.
+use mathlib.Core.Path.{_≡_, refl, sym, ap, _∙_, subst}
+use native.Mathlib.Omega.{arith}
+use Prim.Native.Nat.{ℕ}
+use lib.ListN.{length, length-replicate}
+use Rattle.rules.specs.ArrivalLog.{logH}
+use Rattle.rules.specs.Desk as page
+use Rattle.session.specs.Answer.{answered}
+use Rattle.text.specs.Put.{Put}
+use Rattle.text.specs.Answer.{answerText}
+use Rattle.text.proofs.Printed.{desk-outcome, answer-fits, table-prints, log-prints, call-prints, session-prints}
 use borrow.Author.Needs.{needs}
 use Rattle.text.proofs.session_text.Statement.{statement}
 use Rattle.text.proofs.session_text.Tie as tie
@@ -62,7 +73,12 @@ enum-told-4 c = search needs
 
 -- src/lib.rt:155:21
 number32-requires : tie.Need-number32-requires
-number32-requires c κs = ?
+unfolding desk-outcome
+number32-requires c κs =
+    let st = c .before .before .before .before .before .before .before .before .before .before .before .before in
+    let s = c .before .before .before .before .before .before .session in
+    let is : s .result ≡ answered (desk-outcome (st .args .table .now) (st .args .log .now)) = s .ensures .0 in
+    (answer-fits (st .args .table .now) (st .args .log .now) (s .result) is (c .enum-told4 .given .1)) .0
 
 -- src/lib.rt:155:21
 cast-h : tie.Need-cast-h
@@ -78,7 +94,15 @@ slice-aggregate-admitted-text-2 c = search needs
 
 -- src/lib.rt:156:13
 admitted-text-requires : tie.Need-admitted-text-requires
-admitted-text-requires c κs = ?
+unfolding desk-outcome logH
+admitted-text-requires c κs =
+    let st = c .before .before .before .before .before .before .before .before .before .before .before .before .before .before .before .before in
+    let s = c .before .before .before .before .before .before .before .before .before .before .session in
+    let is : s .result ≡ answered (desk-outcome (st .args .table .now) (st .args .log .now)) = s .ensures .0 in
+    let fit = answer-fits (st .args .table .now) (st .args .log .now) (s .result) is (c .before .before .before .before .enum-told4 .given .1) in
+    let h : c .before .before .before .number32 .result ≡ logH (st .args .log .now) = c .before .before .before .number32 .ensures in
+    let long : length (s .last .1 .1 .0) ≡ 2000 = s .kept .1 .1 .0 ∙ length-replicate {A = ℕ} 2000 0 in
+    (fit .2, omega (arith, fit .1, h), omega (arith, fit .1, h, long), st .pre)
 
 -- src/lib.rt:140:1
 same-length : tie.Need-same-length
@@ -86,7 +110,13 @@ same-length c = search needs
 
 -- src/lib.rt:140:1
 returns : tie.Need-returns
-returns c = ?
+unfolding desk-outcome
+returns c =
+    let st = c .before .before .before .before .before .before .before .before .before .before .before .before .before .before .before .before .before in
+    let s = c .before .before .before .before .before .before .before .before .before .before .before .session in
+    let line = c .before .before .refused-line in
+    let is : s .result ≡ answered (desk-outcome (st .args .table .now) (st .args .log .now)) = s .ensures .0 in
+    subst (λ l. Put 0 l (st .args .out .now) (line .last .0) (line .result)) (table-prints (st .args .table .now) (st .args .log .now) (s .result) is (c .before .before .before .before .before .enum-told .given .1)) (line .ensures)
 
 -- src/lib.rt:140:1
 same-length-2 : tie.Need-same-length-2
@@ -94,7 +124,13 @@ same-length-2 c = search needs
 
 -- src/lib.rt:140:1
 returns-2 : tie.Need-returns-2
-returns-2 c = ?
+unfolding desk-outcome
+returns-2 c =
+    let st = c .before .before .before .before .before .before .before .before .before .before .before .before .before .before .before .before .before in
+    let s = c .before .before .before .before .before .before .before .before .before .before .before .session in
+    let line = c .before .before .refused-line2 in
+    let is : s .result ≡ answered (desk-outcome (st .args .table .now) (st .args .log .now)) = s .ensures .0 in
+    subst (λ l. Put 0 l (st .args .out .now) (line .last .0) (line .result)) (log-prints (st .args .table .now) (st .args .log .now) (s .result) is (c .before .before .before .before .before .enum-told2 .given .1)) (line .ensures)
 
 -- src/lib.rt:140:1
 same-length-3 : tie.Need-same-length-3
@@ -102,7 +138,13 @@ same-length-3 c = search needs
 
 -- src/lib.rt:140:1
 returns-3 : tie.Need-returns-3
-returns-3 c = ?
+unfolding desk-outcome
+returns-3 c =
+    let st = c .before .before .before .before .before .before .before .before .before .before .before .before .before .before .before .before .before in
+    let s = c .before .before .before .before .before .before .before .before .before .before .before .session in
+    let line = c .before .before .refused-line3 in
+    let is : s .result ≡ answered (desk-outcome (st .args .table .now) (st .args .log .now)) = s .ensures .0 in
+    subst (λ l. Put 0 l (st .args .out .now) (line .last .0) (line .result)) (call-prints (st .args .table .now) (st .args .log .now) (s .result) is (c .before .before .before .before .before .enum-told3 .given .1)) (line .ensures)
 
 -- src/lib.rt:140:1
 same-length-4 : tie.Need-same-length-4
@@ -110,7 +152,16 @@ same-length-4 c = search needs
 
 -- src/lib.rt:140:1
 returns-4 : tie.Need-returns-4
-returns-4 c = ?
+unfolding desk-outcome logH
+returns-4 c =
+    let st = c .before .before .before .before .before .before .before .before .before .before .before .before .before .before .before .before .before .before .before in
+    let s = c .before .before .before .before .before .before .before .before .before .before .before .before .before .session in
+    let text = c .before .before .admitted-text in
+    let is : s .result ≡ answered (desk-outcome (st .args .table .now) (st .args .log .now)) = s .ensures .0 in
+    let h : c .before .before .before .before .before .before .number32 .result ≡ logH (st .args .log .now) = c .before .before .before .before .before .before .number32 .ensures in
+    subst (λ l. Put 0 l (st .args .out .now) (text .last .0) (text .result))
+    (ap (λ n. answerText n (s .result) (s .last .1 .1 .0) (s .last .1 .1 .1 .0)) h
+    ∙ session-prints (st .args .table .now) (st .args .log .now) (s .result) (s .last .1 .1 .0) (s .last .1 .1 .1 .0) is (c .before .before .before .before .before .before .before .enum-told4 .given .1) (s .ensures .1 .0) (s .ensures .1 .1)) (text .ensures)
 
 pub session-text-spec : {M : Type 1} → statement M
 session-text-spec =
