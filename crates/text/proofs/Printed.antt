@@ -6,7 +6,7 @@ use mathlib.Core.Option.{Option, none, some}
 use Prim.Native.Nat.{ℕ, zero, suc, _+_, _-_, _*_, _≤_, _<_}
 use native.Mathlib.Omega.{arith}
 use lib.Dec.{ltb}
-use lib.ListN.{length, getD, take, drop, replicate, length-map, length-replicate}
+use lib.ListN.{length, getD, take, drop, replicate, length-append, length-map, length-replicate}
 use borrow.Author.Tests.{ltb-true, ltb-false, lt-ltb, le-ltb}
 use Rattle.rules.specs.declared.Refused.{Refused}
 use Rattle.rules.specs.declared.Refused.the-variants.{Nothing, TheTable, TheLog, TheCall}
@@ -133,15 +133,21 @@ in-two-files input h = rw (le-ltb 37044 (length input) h, page.deskText)
 
 -- ---- the buffer
 
-pub buffer-short : (input lent : List ℕ) → length lent < 18710 → (0 ≡ textLength input lent) × (lent ≡ withText input lent)
+piece-fits : (piece lent : List ℕ) → length piece ≤ length (written 0 piece lent)
+unfolding written
+piece-fits piece lent = omega (arith, length-append piece (drop (0 + length piece) lent))
+
+pub buffer-short : (input lent : List ℕ) → length lent < 18710 → (0 ≡ textLength input lent) × ((lent ≡ withText input lent) × (0 ≤ length lent))
 unfolding textLength withText
-buffer-short input lent h = (sym (rw (lt-ltb (length lent) 18710 h, textLength)), sym (rw (lt-ltb (length lent) 18710 h, withText)))
+buffer-short input lent h = (sym (rw (lt-ltb (length lent) 18710 h, textLength)), (sym (rw (lt-ltb (length lent) 18710 h, withText)), omega arith))
 
 pub text-put : (input text lent after : List ℕ) (r : ℕ) → 18710 ≤ length lent → page.deskText input ≡ text → Put 0 text lent after r
-    → (r ≡ textLength input lent) × (after ≡ withText input lent)
+    → (r ≡ textLength input lent) × ((after ≡ withText input lent) × (r ≤ length after))
 unfolding textLength withText
-text-put input text lent after r h e p =
-    (omega (arith, p .behind, ap length e, counted), p .now-holds ∙ ap (λ l. written 0 l lent) (sym e) ∙ sym holds)
+text-put input text lent after r h e p = (
+  omega (arith, p .behind, ap length e, counted),
+  (p .now-holds ∙ ap (λ l. written 0 l lent) (sym e) ∙ sym holds, omega (arith, p .behind, ap length (p .now-holds), piece-fits text lent)),
+)
   where
     counted : textLength input lent ≡ length (page.deskText input)
     counted = rw (le-ltb (length lent) 18710 h, textLength)

@@ -184,6 +184,7 @@ fn table_end(input: &[u8]) -> usize
 pub fn desk_text(input: &[u8], out: &mut [u8]) -> usize
     ensures length { λ r. ⌜ r ≡ textLength (now (input .entry)) (now (out .entry)) ⌝ }
     ensures text { λ r. ⌜ now (out .exit) ≡ withText (now (input .entry)) (now (out .entry)) ⌝ }
+    ensures within { λ r. ⌜ r ≤ length (now (out .exit)) ⌝ }
 {
     if out.len() < 18710 {
         return 0;

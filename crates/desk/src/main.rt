@@ -1,0 +1,12 @@
+// The desk: a booth table, then an arrival log, from standard input; the session as text on standard output.
+use libc::STDIN_FILENO;
+use libc::STDOUT_FILENO;
+
+// One byte more than the desk takes is read, so that a longer input is known for what it is.
+fn main() {
+    let mut input = [0u8; 37045];
+    let read = io::read_full(STDIN_FILENO, &mut input);
+    let mut printed = [0u8; 18710];
+    let length = text::desk_text(&input[..read], &mut printed);
+    io::write_all(STDOUT_FILENO, &printed[..length]);
+}
