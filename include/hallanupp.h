@@ -111,6 +111,15 @@ typedef struct {
 hallanupp_panel_row hallanupp_panel(const uint8_t *table, size_t table_len, const uint8_t *wall, size_t wall_len,
                                     size_t booth, size_t t);
 
+/* Bytes that hold whatever the desk prints. */
+#define HALLANUPP_TEXT_ROOM 18710
+
+/* What the desk program prints for `input`, a booth table and behind it an arrival log (the table ends where its N says,
+ * or where the input ends): the text of a session of up to 2,000 wall ticks, or one line that says what is refused.
+ * Answers how many bytes of text stand at the start of `text`; bytes behind them keep what they held. No end of string is
+ * written. Where text_len is below HALLANUPP_TEXT_ROOM the answer is 0 and nothing is written. */
+size_t hallanupp_desk_text(const uint8_t *input, size_t input_len, uint8_t *text, size_t text_len);
+
 #ifdef __cplusplus
 }
 #endif

@@ -11,4 +11,5 @@ every-answer-pinned =
       solo-part = λ table log booth n part a b partA partB p q. (p .verdict ∙ sym (q .verdict), p .buffer ∙ sym (q .buffer));
       row-back = λ own H booth n a b p q. p .row ∙ sym (q .row);
       panel = λ table wall booth t a b p q. p .answer ∙ sym (q .answer);
+      desk-text = λ input lent a b leftA leftB p q. (p .bytes ∙ sym (q .bytes), p .buffer ∙ sym (q .buffer));
     }

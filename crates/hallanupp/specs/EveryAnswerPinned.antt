@@ -8,6 +8,7 @@ use Rattle.rules.specs.SoloPart.{askSolo}
 use Rattle.rules.specs.RowBack.{rowBack}
 use Rattle.rules.specs.Panel as shares
 use Rattle.session.specs.Answer.{answered}
+use Rattle.text.specs.Answer.{textLength, withText}
 use Rattle.hallanupp.specs.declared.CVerdict.{CVerdict}
 use Rattle.hallanupp.specs.declared.parts.CRow.{CRow}
 use Rattle.hallanupp.specs.declared.panels.CPanelRow.{CPanelRow}
@@ -42,6 +43,10 @@ pub record RowBack (own : List ℕ) (H booth n : ℕ) (r : CRow) : Type 0 where
 pub record Panel (table wall : List ℕ) (booth t : ℕ) (r : CPanelRow) : Type 0 where
   pub answer : r ≡ panelInC (shares.panel table wall booth t)
 
+pub record DeskText (input lent : List ℕ) (r : ℕ) (left : List ℕ) : Type 0 where
+  pub bytes : r ≡ textLength input lent
+  pub buffer : left ≡ withText input lent
+
 -- ---- the statement
 
 pub record EveryAnswerPinned : Type 0 where
@@ -53,3 +58,4 @@ pub record EveryAnswerPinned : Type 0 where
       → SoloPart table log booth n part a partA → SoloPart table log booth n part b partB → (a ≡ b) × (partA ≡ partB)
   pub row-back : (own : List ℕ) (H booth n : ℕ) (a b : CRow) → RowBack own H booth n a → RowBack own H booth n b → a ≡ b
   pub panel : (table wall : List ℕ) (booth t : ℕ) (a b : CPanelRow) → Panel table wall booth t a → Panel table wall booth t b → a ≡ b
+  pub desk-text : (input lent : List ℕ) (a b : ℕ) (leftA leftB : List ℕ) → DeskText input lent a leftA → DeskText input lent b leftB → (a ≡ b) × (leftA ≡ leftB)

@@ -6,6 +6,7 @@ use rules::Refusal;
 mod panels;
 mod parts;
 mod sessions;
+mod texts;
 
 // What is refused: 0 nothing, 1 the booth table, 2 the arrival log, 3 the call itself; then number and place.
 #[repr(C)]
