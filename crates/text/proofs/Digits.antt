@@ -1,5 +1,5 @@
 -- The digits of a number, one case at a time, and how many there may be. Assumes nothing.
-use mathlib.Core.Path.{_≡_, refl, sym, ap, _∙_}
+use mathlib.Core.Path.{_≡_, refl, ap}
 use mathlib.Core.Bool.{Bool, true, false}
 use mathlib.Core.List.{List, [], _∷_, _++_}
 use Prim.Native.Nat.{ℕ, zero, suc, _+_, _-_, _/_, _%_, _≤_, _<_}
@@ -8,6 +8,7 @@ use lib.Dec.{ltb}
 use lib.ListN.{length, length-append}
 use borrow.Author.Tests.{lt-ltb, le-ltb}
 use Rattle.rules.specs.Desk.{digits, decimal, labelled}
+use Rattle.text.specs.Put.{Put}
 
 pub no-digits : (most n : ℕ) → most ≡ 0 → digits most n ≡ []
 unfolding digits
@@ -37,3 +38,7 @@ few-digits (suc most) n = go (few-digits most (n / 10)) (ltb n 10) refl
 pub labelled-length : (word : List ℕ) (n : ℕ) → length (labelled word n) ≤ length word + 20
 unfolding labelled decimal
 labelled-length word n = omega (arith, length-append word (digits 20 n), few-digits 20 n)
+
+-- where the piece behind a word and its number goes
+pub labelled-ends : (word : List ℕ) (n : ℕ) {at m : ℕ} {a b : List ℕ} → Put at (labelled word n) a b m → m ≤ at + length word + 20
+labelled-ends word n p = omega (arith, p .behind, labelled-length word n)

@@ -1,17 +1,18 @@
 -- How long each line may be, and the lines of one booth more. Assumes nothing.
-use mathlib.Core.Path.{_≡_, refl, sym, ap, _∙_}
-use mathlib.Core.List.{List, [], _∷_, _++_, map}
+use mathlib.Core.Path.{_≡_, refl, ap}
+use mathlib.Core.List.{List, _++_, map}
 use mathlib.Core.Option.{Option, none, some}
-use Prim.Native.Nat.{ℕ, zero, suc, _+_, _*_, _≤_, _<_}
+use Prim.Native.Nat.{ℕ, zero, suc, _+_, _*_, _≤_}
 use native.Mathlib.Numerals.{add-one}
 use native.Mathlib.Omega.{arith}
-use lib.ListN.{length, getD, take, drop, length-append, length-map, length-take}
+use lib.ListN.{length, getD, drop, length-append, length-map, length-take}
 use borrow.Author.Tests.{ltb-false}
 use Rattle.rules.specs.declared.Refusal.{Refusal}
 use Rattle.rules.specs.Refusals.{refuseIf, firstFault}
 use Rattle.rules.specs.RowBack.{rowChecks, rowBack}
 use Rattle.rules.specs.Desk as page
 use Rattle.laws.proofs.Checks.{no-fault}
+use Rattle.text.specs.Put.{Put}
 use Rattle.text.proofs.Digits.{labelled-length}
 
 pub number-line-length : (word : List ℕ) (n : ℕ) → length (page.numberLine word n) ≤ length word + 21
@@ -70,3 +71,13 @@ pub booth-lines-more : (i H : ℕ) (clocks worked own : List ℕ)
     → page.boothLines (i + 1) H clocks worked own ≡ page.boothLines i H clocks worked own ++ page.boothLine i (getD clocks i 0) (getD worked i 0) ((rowBack own H i (getD clocks i 0)) .part)
 unfolding page.boothLines
 booth-lines-more i H clocks worked own = ap (λ k. page.boothLines k H clocks worked own) (add-one i)
+
+-- where the piece behind a line, or behind the booths' lines, goes
+pub number-line-ends : (word : List ℕ) (n : ℕ) {at m : ℕ} {a b : List ℕ} → Put at (page.numberLine word n) a b m → m ≤ at + length word + 21
+number-line-ends word n p = omega (arith, p .behind, number-line-length word n)
+
+pub record-line-ends : (word bytes : List ℕ) {at m : ℕ} {a b : List ℕ} → Put at (page.recordLine word bytes) a b m → m ≡ at + length word + length bytes + 1
+record-line-ends word bytes p = omega (arith, p .behind, record-line-length word bytes)
+
+pub booth-lines-end : (n H : ℕ) (clocks worked own : List ℕ) {at m : ℕ} {a b : List ℕ} → H ≤ 2000 → Put at (page.boothLines n H clocks worked own) a b m → m ≤ at + n * 2081
+booth-lines-end n H clocks worked own h p = omega (arith, p .behind, booth-lines-length n H clocks worked own h)

@@ -1,5 +1,5 @@
 -- Pieces put one behind the other. Assumes nothing.
-use mathlib.Core.Path.{_≡_, refl, sym, ap, _∙_, subst}
+use mathlib.Core.Path.{_≡_, sym, ap, _∙_, subst}
 use mathlib.Core.List.{List, [], _∷_, _++_, append-assoc}
 use Prim.Native.Nat.{ℕ, suc, _+_, _≤_, _<_}
 use native.Mathlib.Nat.{add-zero}
@@ -8,7 +8,6 @@ use native.Mathlib.Omega.{arith}
 use lib.ListN.{length, getD, take, drop, set, length-append, length-take, take-append-drop}
 use lib.Seq.{take-suc, take-all, take-at, drop-at, drop-cons, drop-drop, set-at, append-snoc}
 use Rattle.rules.specs.Bytes.{written}
-use Rattle.laws.proofs.LentRows.{length-written}
 use Rattle.text.specs.Put.{Put}
 
 -- no byte changes nothing

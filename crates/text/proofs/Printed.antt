@@ -1,8 +1,7 @@
 -- The text of a session case by case, and what is known where nothing is refused. Assumes nothing.
-use mathlib.Core.Path.{_≡_, refl, sym, ap, _∙_, subst}
+use mathlib.Core.Path.{_≡_, refl, sym, ap, _∙_}
 use mathlib.Core.Bool.{Bool, true, false}
-use mathlib.Core.List.{List, [], _∷_, _++_, map}
-use mathlib.Core.Option.{Option, none, some}
+use mathlib.Core.List.{List, [], _∷_, _++_}
 use Prim.Native.Nat.{ℕ, zero, suc, _+_, _-_, _*_, _≤_, _<_}
 use native.Mathlib.Omega.{arith}
 use lib.Dec.{ltb}
@@ -28,7 +27,7 @@ use Rattle.session.proofs.ByCases.{table-refused, log-refused, wall-short, own-
 use Rattle.session.specs.declared.SessionAnswer.{SessionAnswer}
 use Rattle.session.specs.Answer.{answered}
 use Rattle.text.specs.Put.{Put}
-use Rattle.text.specs.Answer.{answerText, text-room, textLength, withText}
+use Rattle.text.specs.Answer.{answerText, textLength, withText}
 
 -- ---- where nothing is refused
 

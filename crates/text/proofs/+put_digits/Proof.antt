@@ -1,8 +1,8 @@
 -- `text::put_digits` meets its contract. It calls itself with a falling `most`. Assumes nothing.
-use mathlib.Core.Path.{_≡_, refl, sym, ap, _∙_, subst}
-use Prim.Native.Nat.{ℕ, _+_, _-_, _/_, _%_, _<_, _≤_}
+use mathlib.Core.Path.{sym, _∙_, subst}
+use Prim.Native.Nat.{ℕ, _+_, _-_, _/_, _%_, _<_}
 use native.Mathlib.Omega.{arith}
-use lib.ListN.{length, set, length-set}
+use lib.ListN.{set, length-set}
 use Rattle.text.specs.Put.{Put}
 use Rattle.text.proofs.Pieces.{put-nothing, push}
 use Rattle.text.proofs.Digits.{no-digits, one-digit, more-digits, few-digits}
@@ -25,7 +25,6 @@ abbrev put-digits-below : ℕ → In 1 put-digits-kinds.ps
 put-digits-below t =
     and 1 put-digits-kinds.ps (falls 1 put-digits-kinds.ps _<_ μ-put-digits t) put-digits.Pre
 
--- src/lib.rt:50:9
 put-digits-returns :
     (t : ℕ) →
     put-digits-lts.Need-returns
@@ -37,7 +36,6 @@ put-digits-returns t c =
     subst (λ l. Put (st .args .at) l (st .args .out .now) (st .args .out .now) (st .args .at)) (sym (no-digits (st .args .most) (st .args .n) (c .if1 .taken)))
     (put-nothing (st .args .at) (st .args .out .now) (omega (arith, st .pre .1)))
 
--- src/lib.rt:53:24
 put-digits-cast-out :
     (t : ℕ) →
     put-digits-lts.Need-cast-out
@@ -46,7 +44,6 @@ put-digits-cast-out :
     put-digits.Post
 put-digits-cast-out t c = omega arith
 
--- src/lib.rt:53:19
 put-digits-add-out :
     (t : ℕ) →
     put-digits-lts.Need-add-out
@@ -55,28 +52,24 @@ put-digits-add-out :
     put-digits.Post
 put-digits-add-out t c = omega arith
 
--- src/lib.rt:53:9
 put-digits-slice-write-out : (t : ℕ) → put-digits-lts.Need-slice-write-out (
   put-digits-below t,
   put-digits.Post,
 ) (put-digits-at t) put-digits.Post
 put-digits-slice-write-out t c = omega (arith, c .before .before .before .pre .1)
 
--- src/lib.rt:54:16
 put-digits-add-result : (t : ℕ) → put-digits-lts.Need-add-result (
   put-digits-below t,
   put-digits.Post,
 ) (put-digits-at t) put-digits.Post
 put-digits-add-result t c = omega (arith, c .before .before .before .pre .1)
 
--- src/lib.rt:54:9
 put-digits-same-length : (t : ℕ) → put-digits-lts.Need-same-length (
   put-digits-below t,
   put-digits.Post,
 ) (put-digits-at t) put-digits.Post
 put-digits-same-length t c = length-set (c .before .before .before .args .out .now) (c .before .before .before .args .at) (48 + c .before .before .before .args .n)
 
--- src/lib.rt:54:9
 put-digits-returns-2 : (t : ℕ) → put-digits-lts.Need-returns-2 (
   put-digits-below t,
   put-digits.Post,
@@ -87,35 +80,30 @@ put-digits-returns-2 t c =
     (sym (one-digit (st .args .most) (st .args .n) (omega arith) (c .if2 .taken)))
     (push (48 + st .args .n) (put-nothing (st .args .at) (st .args .out .now) (omega (arith, st .pre .1))) (omega (arith, st .pre .1)))
 
--- src/lib.rt:56:53
 put-digits-sub-put-digits : (t : ℕ) → put-digits-lts.Need-sub-put-digits (
   put-digits-below t,
   put-digits.Post,
 ) (put-digits-at t) put-digits.Post
 put-digits-sub-put-digits t c = omega arith
 
--- src/lib.rt:56:9
 put-digits-put-digits-requires : (t : ℕ) → put-digits-lts.Need-put-digits-requires (
   put-digits-below t,
   put-digits.Post,
 ) (put-digits-at t) put-digits.Post
 put-digits-put-digits-requires t c κs = (omega (arith, c .before .before .before .before .pre .0), omega (arith, c .before .before .before .before .pre .1))
 
--- src/lib.rt:57:22
 put-digits-cast-out-2 : (t : ℕ) → put-digits-lts.Need-cast-out-2 (
   put-digits-below t,
   put-digits.Post,
 ) (put-digits-at t) put-digits.Post
 put-digits-cast-out-2 t c = omega arith
 
--- src/lib.rt:57:17
 put-digits-add-out-2 : (t : ℕ) → put-digits-lts.Need-add-out-2 (
   put-digits-below t,
   put-digits.Post,
 ) (put-digits-at t) put-digits.Post
 put-digits-add-out-2 t c = omega arith
 
--- src/lib.rt:57:5
 put-digits-slice-write-out-2 : (t : ℕ) → put-digits-lts.Need-slice-write-out-2 (
   put-digits-below t,
   put-digits.Post,
@@ -125,7 +113,6 @@ put-digits-slice-write-out-2 t c =
     let less : st .args .most - 1 < st .args .most = omega arith in
     omega (arith, st .pre .1, c .before .before .put-digits .ensures .behind, few-digits (st .args .most - 1) (st .args .n / 10), c .before .before .put-digits .kept .0, less)
 
--- src/lib.rt:58:5
 put-digits-add-result-2 : (t : ℕ) → put-digits-lts.Need-add-result-2 (
   put-digits-below t,
   put-digits.Post,
@@ -135,7 +122,6 @@ put-digits-add-result-2 t c =
     let less : st .args .most - 1 < st .args .most = omega arith in
     omega (arith, st .pre .1, c .before .before .put-digits .ensures .behind, few-digits (st .args .most - 1) (st .args .n / 10), less)
 
--- src/lib.rt:45:1
 put-digits-same-length-2 : (t : ℕ) → put-digits-lts.Need-same-length-2 (
   put-digits-below t,
   put-digits.Post,
@@ -145,7 +131,6 @@ put-digits-same-length-2 t c =
     let p = c .before .before .put-digits in
     length-set (p .last .0) (p .result) (48 + st .args .n % 10) ∙ p .kept .0
 
--- src/lib.rt:45:1
 put-digits-returns-3 : (t : ℕ) → put-digits-lts.Need-returns-3 (
   put-digits-below t,
   put-digits.Post,

@@ -1,6 +1,6 @@
 -- `text::booth_lines` meets its contract: after i turns the lines of the first i booths stand. Assumes nothing.
-use mathlib.Core.Path.{_≡_, refl, sym, ap, _∙_, subst}
-use Prim.Native.Nat.{_+_, _-_, _*_, _≤_, _<_}
+use mathlib.Core.Path.{_≡_, refl, sym, _∙_, subst}
+use Prim.Native.Nat.{_-_, _≤_}
 use native.Mathlib.Omega.{arith}
 use lib.ListN.{length, getD}
 use Rattle.rules.specs.RowBack.{rowBack}
@@ -8,13 +8,9 @@ use Rattle.rules.specs.Desk as page
 use borrow.Author.Needs.{needs}
 use Rattle.text.proofs.Pieces.{put-nothing, then}
 use Rattle.text.specs.Put.{Put}
-use Rattle.text.proofs.Lines.{row-short, booth-lines-length, booth-lines-more}
+use Rattle.text.proofs.Lines.{row-short, booth-lines-end, booth-lines-more}
 use Rattle.text.proofs.booth_lines.Statement.{statement}
 use Rattle.text.proofs.booth_lines.Tie as tie
-use Rattle.text.proofs.booth_lines.Reads as reads
-use Rattle.text.proofs.booth_lines.Lts as lts
-use Rattle.panel.proofs.row_back.Reads as row-back-reads
-use Rattle.text.proofs.booth_line.Reads as booth-line-reads
 
 abbrev Inv-loop : tie.InvT-loop
 Inv-loop out₀ at own h n clocks worked next₀ i₀ out next i =
@@ -23,66 +19,53 @@ Inv-loop out₀ at own h n clocks worked next₀ i₀ out next i =
 abbrev μ-loop : tie.MeasureT-loop
 μ-loop out₀ at own h n clocks worked next₀ i₀ out next i = n - i
 
--- src/lib.rt:120:5
 loop-holds : tie.Need-loop-holds Inv-loop μ-loop
 unfolding page.boothLines
 loop-holds c = (omega arith, refl, put-nothing (c .before .before .before .before .args .at) (c .before .before .before .before .args .out .now) (omega (arith, c .before .before .before .before .pre .2)))
 
--- src/lib.rt:121:21
 mul-clock : tie.Need-mul-clock Inv-loop μ-loop
 mul-clock c = omega (arith, c .before .before .before .before .before .before .pre .0)
 
--- src/lib.rt:121:21
 array-read-clock : tie.Need-array-read-clock Inv-loop μ-loop
 array-read-clock c = omega (arith, c .before .before .before .before .before .before .pre .0)
 
--- src/lib.rt:121:21
 cast-clock : tie.Need-cast-clock Inv-loop μ-loop
 cast-clock c = search needs
 
--- src/lib.rt:122:13
 row-back-requires : tie.Need-row-back-requires Inv-loop μ-loop
 row-back-requires c κs = tt
 
--- src/lib.rt:123:57
 mul-booth-line : tie.Need-mul-booth-line Inv-loop μ-loop
 mul-booth-line c = omega (arith, c .before .before .before .before .before .before .before .before .pre .0)
 
--- src/lib.rt:123:57
 array-read-booth-line : tie.Need-array-read-booth-line Inv-loop μ-loop
 array-read-booth-line c = omega (arith, c .before .before .before .before .before .before .before .before .pre .0)
 
--- src/lib.rt:123:57
 cast-booth-line : tie.Need-cast-booth-line Inv-loop μ-loop
 cast-booth-line c = search needs
 
--- src/lib.rt:123:9
 booth-line-requires : tie.Need-booth-line-requires Inv-loop μ-loop
 booth-line-requires c κs =
     let st = c .before .before .before .before .before .before .before .before in
     let at = c .before .before .before .loop in
     let u = getD (st .args .answer .clocks) (at .i) 0 in
     let row : length (c .before .row-back .result .now) ≤ st .args .h =
-    subst (λ l. length l ≤ st .args .h) (sym (c .before .row-back .ensures)) (row-short (st .args .own .now) (st .args .h) (at .i) u) in
+    subst (λ l. length l ≤ st .args .h) (sym (c .before .row-back .ensures)) (row-short _ _ _ _) in
     omega (
       arith,
       st .pre .1,
       st .pre .2,
       at .inv .1,
-      at .inv .2 .behind,
       row,
-      booth-lines-length (at .i) (st .args .h) (st .args .answer .clocks) (st .args .answer .worked) (st .args .own .now) (st .pre .1),
+      booth-lines-end _ _ _ _ _ (st .pre .1) (at .inv .2),
     )
 
--- src/lib.rt:124:9
 add-i : tie.Need-add-i Inv-loop μ-loop
 add-i c = omega arith
 
--- src/lib.rt:120:5
 loop-less : tie.Need-loop-less Inv-loop μ-loop
 loop-less c = omega arith
 
--- src/lib.rt:120:5
 loop-again : tie.Need-loop-again Inv-loop μ-loop
 loop-again c =
     let st = c .before .before .before .before .before .before .before .before .before .before .before in
@@ -97,11 +80,9 @@ loop-again c =
           (sym (booth-lines-more (at .i) (st .args .h) (st .args .answer .clocks) (st .args .answer .worked) (st .args .own .now))) (then (at .inv .2) put),
     )
 
--- src/lib.rt:111:1
 same-length : tie.Need-same-length Inv-loop μ-loop
 same-length c = c .before .loop .inv .1
 
--- src/lib.rt:111:1
 returns : tie.Need-returns Inv-loop μ-loop
 returns c =
     let st = c .before .before .before .before .before .before in

@@ -1,5 +1,5 @@
 -- `text::desk_text` meets its contract. Assumes nothing.
-use mathlib.Core.Path.{_≡_, refl, sym, ap, _∙_, subst}
+use mathlib.Core.Path.{sym, ap, _∙_}
 use Prim.Native.Nat.{_-_}
 use native.Mathlib.Omega.{arith}
 use lib.ListN.{length, take, drop, length-drop}
@@ -10,29 +10,19 @@ use Rattle.text.proofs.Printed.{too-long, in-two-files, buffer-short, t
 use borrow.Author.Needs.{needs}
 use Rattle.text.proofs.desk_text.Statement.{statement}
 use Rattle.text.proofs.desk_text.Tie as tie
-use Rattle.text.proofs.desk_text.Reads as reads
-use Rattle.text.proofs.desk_text.Lts as lts
-use Rattle.text.proofs.refused_line.Reads as refused-line-reads
-use Rattle.text.proofs.session_text.Reads as session-text-reads
-use Rattle.text.proofs.table_end.Reads as table-end-reads
 
--- src/lib.rt:182:9
 returns : tie.Need-returns
 returns c = buffer-short (c .before .before .before .args .input .now) (c .before .before .before .args .out .now) (c .if1 .taken)
 
--- src/lib.rt:189:34
 slice-aggregate-refused-line : tie.Need-slice-aggregate-refused-line
 slice-aggregate-refused-line c = search needs
 
--- src/lib.rt:189:9
 refused-line-requires : tie.Need-refused-line-requires
 refused-line-requires c κs = search needs
 
--- src/lib.rt:189:9
 same-length : tie.Need-same-length
 same-length c = search needs
 
--- src/lib.rt:189:9
 returns-2 : tie.Need-returns-2
 unfolding refusal
 returns-2 c =
@@ -40,35 +30,27 @@ returns-2 c =
     let line = c .before .before .refused-line in
     text-put (st .args .input .now) _ (st .args .out .now) (line .last .0) (line .result) (c .before .before .before .before .before .before .if1 .left) (too-long (st .args .input .now) (c .before .before .before .before .before .if2 .taken)) (line .ensures)
 
--- src/lib.rt:191:9
 table-end-requires : tie.Need-table-end-requires
 table-end-requires c κs = search needs
 
--- src/lib.rt:192:23
 slice-aggregate-session-text : tie.Need-slice-aggregate-session-text
 slice-aggregate-session-text c = sym (length-take-le (c .before .before .table-end .result) (c .before .before .before .before .before .before .before .args .input .now) (c .before .before .table-end .ensures .1))
 
--- src/lib.rt:192:38
 sub-session-text : tie.Need-sub-session-text
 sub-session-text c = search needs
 
--- src/lib.rt:192:38
 part-session-text-start : tie.Need-part-session-text-start
 part-session-text-start c = search needs
 
--- src/lib.rt:192:38
 part-session-text-end : tie.Need-part-session-text-end
 part-session-text-end c = search needs
 
--- src/lib.rt:192:5
 session-text-requires : tie.Need-session-text-requires
 session-text-requires c κs = search needs
 
--- src/lib.rt:177:1
 same-length-2 : tie.Need-same-length-2
 same-length-2 c = search needs
 
--- src/lib.rt:177:1
 returns-3 : tie.Need-returns-3
 returns-3 c =
     let st = c .before .before .before .before .before .before .before .before .before .before .before in

@@ -1,25 +1,19 @@
 -- `text::letter` meets its contract. Assumes nothing.
 use mathlib.Core.Path.{sym}
-use native.Mathlib.Omega.{arith}
 use Rattle.rules.specs.Desk as page
 use borrow.Author.Tests.{lt-ltb, le-ltb}
 use borrow.Author.Needs.{needs}
 use borrow.Author.Needs.{needs}
 use Rattle.text.proofs.letter.Statement.{statement}
 use Rattle.text.proofs.letter.Tie as tie
-use Rattle.text.proofs.letter.Reads as reads
-use Rattle.text.proofs.letter.Lts as lts
 
--- src/lib.rt:26:16
 add-result : tie.Need-add-result
 add-result c = search needs
 
--- src/lib.rt:26:9
 returns : tie.Need-returns
 unfolding page.letter
 returns c = sym (rw (lt-ltb (c .before .args .byte) 8 (c .if1 .taken), page.letter))
 
--- src/lib.rt:22:1
 returns-2 : tie.Need-returns-2
 unfolding page.letter
 returns-2 c = sym (rw (le-ltb (c .before .args .byte) 8 (c .if1 .left), page.letter))

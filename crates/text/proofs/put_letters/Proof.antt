@@ -1,5 +1,5 @@
 -- `text::put_letters` meets its contract: after i turns the first i letters stand. Assumes nothing.
-use mathlib.Core.Path.{_≡_, refl, sym, ap, _∙_, subst}
+use mathlib.Core.Path.{_≡_, refl, sym, _∙_, subst}
 use mathlib.Core.List.{map}
 use Prim.Native.Nat.{_+_, _-_, _≤_, _<_}
 use native.Mathlib.Omega.{arith}
@@ -8,12 +8,8 @@ use Rattle.rules.specs.Desk as page
 use Rattle.laws.proofs.Run.{getD-map}
 use Rattle.text.specs.Put.{Put}
 use Rattle.text.proofs.Pieces.{put-first, push-next, put-last}
-use borrow.Author.Needs.{needs}
 use Rattle.text.proofs.put_letters.Statement.{statement}
 use Rattle.text.proofs.put_letters.Tie as tie
-use Rattle.text.proofs.put_letters.Reads as reads
-use Rattle.text.proofs.put_letters.Lts as lts
-use Rattle.text.proofs.letter.Reads as letter-reads
 
 abbrev Inv-loop : tie.InvT-loop
 Inv-loop out₀ at kept i₀ out i =
@@ -22,35 +18,27 @@ Inv-loop out₀ at kept i₀ out i =
 abbrev μ-loop : tie.MeasureT-loop
 μ-loop out₀ at kept i₀ out i = length kept - i
 
--- src/lib.rt:37:5
 loop-holds : tie.Need-loop-holds Inv-loop μ-loop
 loop-holds c = (omega arith, refl, put-first (c .before .before .args .at) (c .before .before .args .out .now) (omega (arith, c .before .before .pre)))
 
--- src/lib.rt:38:30
 shared-slice-read-letter : tie.Need-shared-slice-read-letter Inv-loop μ-loop
 shared-slice-read-letter c = omega arith
 
--- src/lib.rt:38:23
 letter-requires : tie.Need-letter-requires Inv-loop μ-loop
 letter-requires c κs = tt
 
--- src/lib.rt:38:13
 add-out : tie.Need-add-out Inv-loop μ-loop
 add-out c = omega (arith, c .before .before .before .before .before .before .pre)
 
--- src/lib.rt:38:9
 slice-write-out : tie.Need-slice-write-out Inv-loop μ-loop
 slice-write-out c = omega (arith, c .before .before .before .before .before .before .pre, c .before .before .before .loop .inv .1)
 
--- src/lib.rt:39:9
 add-i : tie.Need-add-i Inv-loop μ-loop
 add-i c = omega arith
 
--- src/lib.rt:37:5
 loop-less : tie.Need-loop-less Inv-loop μ-loop
 loop-less c = omega arith
 
--- src/lib.rt:37:5
 loop-again : tie.Need-loop-again Inv-loop μ-loop
 loop-again c =
     let st = c .before .before .before .before .before .before in
@@ -64,15 +52,12 @@ loop-again c =
           (push-next (map page.letter kept) (omega (arith, length-map kept page.letter, there)) (at .inv .2) (omega (arith, st .pre))),
     )
 
--- src/lib.rt:41:5
 add-result : tie.Need-add-result Inv-loop μ-loop
 add-result c = omega (arith, c .before .before .before .before .pre)
 
--- src/lib.rt:32:1
 same-length : tie.Need-same-length Inv-loop μ-loop
 same-length c = c .before .loop .inv .1
 
--- src/lib.rt:32:1
 returns : tie.Need-returns Inv-loop μ-loop
 returns c =
     let kept = c .before .before .before .before .args .kept .now in

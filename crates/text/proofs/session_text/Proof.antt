@@ -1,10 +1,9 @@
 -- `text::session_text` meets its contract. Assumes nothing.
-use mathlib.Core.Path.{_≡_, refl, sym, ap, _∙_, subst}
+use mathlib.Core.Path.{_≡_, ap, _∙_, subst}
 use native.Mathlib.Omega.{arith}
 use Prim.Native.Nat.{ℕ}
 use lib.ListN.{length, length-replicate}
 use Rattle.rules.specs.ArrivalLog.{logH}
-use Rattle.rules.specs.Desk as page
 use Rattle.session.specs.Answer.{answered}
 use Rattle.text.specs.Put.{Put}
 use Rattle.text.specs.Answer.{answerText}
@@ -12,66 +11,46 @@ use Rattle.text.proofs.Printed.{desk-outcome, answer-fits, table-prints
 use borrow.Author.Needs.{needs}
 use Rattle.text.proofs.session_text.Statement.{statement}
 use Rattle.text.proofs.session_text.Tie as tie
-use Rattle.text.proofs.session_text.Reads as reads
-use Rattle.text.proofs.session_text.Lts as lts
-use Rattle.rules.proofs.number32.Reads as number32-reads
-use Rattle.session.proofs.session.Reads as session-reads
-use Rattle.text.proofs.admitted_text.Reads as admitted-text-reads
-use Rattle.text.proofs.refused_line.Reads as refused-line-reads
 
--- src/lib.rt:146:47
 slice-aggregate-session : tie.Need-slice-aggregate-session
 slice-aggregate-session c = search needs
 
--- src/lib.rt:146:58
 slice-aggregate-session-2 : tie.Need-slice-aggregate-session-2
 slice-aggregate-session-2 c = search needs
 
--- src/lib.rt:146:9
 session-requires : tie.Need-session-requires
 session-requires c κs = search needs
 
--- src/lib.rt:151:43
 enum-told : tie.Need-enum-told
 enum-told c = search needs
 
--- src/lib.rt:151:48
 slice-aggregate-refused-line : tie.Need-slice-aggregate-refused-line
 slice-aggregate-refused-line c = search needs
 
--- src/lib.rt:151:30
 refused-line-requires : tie.Need-refused-line-requires
 refused-line-requires c κs = search needs
 
--- src/lib.rt:152:41
 enum-told-2 : tie.Need-enum-told-2
 enum-told-2 c = search needs
 
--- src/lib.rt:152:46
 slice-aggregate-refused-line-2 : tie.Need-slice-aggregate-refused-line-2
 slice-aggregate-refused-line-2 c = search needs
 
--- src/lib.rt:152:28
 refused-line-requires-2 : tie.Need-refused-line-requires-2
 refused-line-requires-2 c κs = search needs
 
--- src/lib.rt:153:42
 enum-told-3 : tie.Need-enum-told-3
 enum-told-3 c = search needs
 
--- src/lib.rt:153:47
 slice-aggregate-refused-line-3 : tie.Need-slice-aggregate-refused-line-3
 slice-aggregate-refused-line-3 c = search needs
 
--- src/lib.rt:153:29
 refused-line-requires-3 : tie.Need-refused-line-requires-3
 refused-line-requires-3 c κs = search needs
 
--- src/lib.rt:155:21
 enum-told-4 : tie.Need-enum-told-4
 enum-told-4 c = search needs
 
--- src/lib.rt:155:21
 number32-requires : tie.Need-number32-requires
 unfolding desk-outcome
 number32-requires c κs =
@@ -80,19 +59,15 @@ number32-requires c κs =
     let is : s .result ≡ answered (desk-outcome (st .args .table .now) (st .args .log .now)) = s .ensures .0 in
     (answer-fits (st .args .table .now) (st .args .log .now) (s .result) is (c .enum-told4 .given .1)) .0
 
--- src/lib.rt:155:21
 cast-h : tie.Need-cast-h
 cast-h c = search needs
 
--- src/lib.rt:156:40
 slice-aggregate-admitted-text : tie.Need-slice-aggregate-admitted-text
 slice-aggregate-admitted-text c = search needs
 
--- src/lib.rt:156:47
 slice-aggregate-admitted-text-2 : tie.Need-slice-aggregate-admitted-text-2
 slice-aggregate-admitted-text-2 c = search needs
 
--- src/lib.rt:156:13
 admitted-text-requires : tie.Need-admitted-text-requires
 unfolding desk-outcome logH
 admitted-text-requires c κs =
@@ -104,11 +79,9 @@ admitted-text-requires c κs =
     let long : length (s .last .1 .1 .0) ≡ 2000 = s .kept .1 .1 .0 ∙ length-replicate {A = ℕ} 2000 0 in
     (fit .2, omega (arith, fit .1, h), omega (arith, fit .1, h, long), st .pre)
 
--- src/lib.rt:140:1
 same-length : tie.Need-same-length
 same-length c = search needs
 
--- src/lib.rt:140:1
 returns : tie.Need-returns
 unfolding desk-outcome
 returns c =
@@ -118,11 +91,9 @@ returns c =
     let is : s .result ≡ answered (desk-outcome (st .args .table .now) (st .args .log .now)) = s .ensures .0 in
     subst (λ l. Put 0 l (st .args .out .now) (line .last .0) (line .result)) (table-prints (st .args .table .now) (st .args .log .now) (s .result) is (c .before .before .before .before .before .enum-told .given .1)) (line .ensures)
 
--- src/lib.rt:140:1
 same-length-2 : tie.Need-same-length-2
 same-length-2 c = search needs
 
--- src/lib.rt:140:1
 returns-2 : tie.Need-returns-2
 unfolding desk-outcome
 returns-2 c =
@@ -132,11 +103,9 @@ returns-2 c =
     let is : s .result ≡ answered (desk-outcome (st .args .table .now) (st .args .log .now)) = s .ensures .0 in
     subst (λ l. Put 0 l (st .args .out .now) (line .last .0) (line .result)) (log-prints (st .args .table .now) (st .args .log .now) (s .result) is (c .before .before .before .before .before .enum-told2 .given .1)) (line .ensures)
 
--- src/lib.rt:140:1
 same-length-3 : tie.Need-same-length-3
 same-length-3 c = search needs
 
--- src/lib.rt:140:1
 returns-3 : tie.Need-returns-3
 unfolding desk-outcome
 returns-3 c =
@@ -146,11 +115,9 @@ returns-3 c =
     let is : s .result ≡ answered (desk-outcome (st .args .table .now) (st .args .log .now)) = s .ensures .0 in
     subst (λ l. Put 0 l (st .args .out .now) (line .last .0) (line .result)) (call-prints (st .args .table .now) (st .args .log .now) (s .result) is (c .before .before .before .before .before .enum-told3 .given .1)) (line .ensures)
 
--- src/lib.rt:140:1
 same-length-4 : tie.Need-same-length-4
 same-length-4 c = search needs
 
--- src/lib.rt:140:1
 returns-4 : tie.Need-returns-4
 unfolding desk-outcome logH
 returns-4 c =
