@@ -108,3 +108,9 @@ impl PartialEq for PanelRow {
             && self.reading == other.reading
     }
 }
+
+/// Where two copies of a lent buffer begin to differ.
+pub fn first_difference(said: &[u8], expected: &[u8]) -> Option<usize> {
+    assert_eq!(said.len(), expected.len());
+    said.iter().zip(expected).position(|(a, b)| a != b)
+}

@@ -8,6 +8,9 @@
 use crate::answers::Verdict;
 use crate::answers::{PanelRow, Row, SessionAnswer};
 
+/// Bytes that hold whatever the desk prints.
+pub const TEXT_ROOM: usize = 18_710;
+
 extern "C" {
     fn hallanupp_table_verdict(table: *const u8, table_len: usize) -> Verdict;
     fn hallanupp_files_verdict(
@@ -53,6 +56,12 @@ extern "C" {
         booth: usize,
         t: usize,
     ) -> PanelRow;
+    fn hallanupp_desk_text(
+        input: *const u8,
+        input_len: usize,
+        text: *mut u8,
+        text_len: usize,
+    ) -> usize;
 }
 
 /// The verdict on a booth table.
@@ -124,4 +133,11 @@ pub fn panel(table: &[u8], wall: &[u8], booth: usize, t: usize) -> PanelRow {
             t,
         )
     }
+}
+
+/// What the desk prints for a table followed by a log, into the lent buffer.
+pub fn desk_text(input: &[u8], text: &mut [u8]) -> usize {
+    // SAFETY: both slices are valid for their lengths; the written one is `&mut`,
+    // so it overlaps nothing.
+    unsafe { hallanupp_desk_text(input.as_ptr(), input.len(), text.as_mut_ptr(), text.len()) }
 }

@@ -1,5 +1,6 @@
 //! Files to compare on: good ones, and what accidents leave of them.
 
+mod desk;
 mod edge;
 mod good;
 mod largest;
@@ -7,6 +8,7 @@ mod logs;
 mod sessions;
 mod tables;
 
+pub use desk::kinds_of_input;
 pub use good::{audition, every_tick, full_house, full_log};
 pub use largest::largest_sessions;
 pub use logs::kinds_of_log;
@@ -20,6 +22,13 @@ use second::random::Random;
 pub struct Files {
     pub table: Vec<u8>,
     pub log: Vec<u8>,
+}
+
+impl Files {
+    /// What the desk program reads: the table, and behind it the log.
+    pub fn joined(&self) -> Vec<u8> {
+        [self.table.as_slice(), &self.log].concat()
+    }
 }
 
 /// Inputs of one kind, made one by one as they are asked for.

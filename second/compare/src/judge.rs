@@ -2,6 +2,7 @@
 //! expected to answer.
 
 use second::arrivals::read_log;
+use second::desk::desk;
 use second::panel::{panel as second_panel, Reading};
 use second::refusal::Refusal;
 use second::row::row;
@@ -14,6 +15,7 @@ use crate::answers::{
     PanelRow, Row, SessionAnswer, Verdict, ARRIVAL_LOG, AT_CEILING, BELOW, BOOTH_TABLE, CALL,
     NONE_YET, NOTHING, OVER,
 };
+use crate::boxed::TEXT_ROOM;
 
 fn verdict(refused: u32, refusal: Refusal) -> Verdict {
     Verdict {
@@ -108,4 +110,15 @@ pub fn panel(table: &[u8], wall: &[u8], booth: usize, t: usize) -> PanelRow {
         got: shown.got,
         reading,
     }
+}
+
+/// What the desk prints, at the start of the lent buffer; bytes behind it keep
+/// what they held. A buffer without room for any text gets none.
+pub fn desk_text(input: &[u8], text: &mut [u8]) -> usize {
+    if text.len() < TEXT_ROOM {
+        return 0;
+    }
+    let printed = desk(input);
+    text[..printed.len()].copy_from_slice(&printed);
+    printed.len()
 }

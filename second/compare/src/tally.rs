@@ -8,14 +8,18 @@ use crate::answers::{Verdict, ARRIVAL_LOG, BOOTH_TABLE, NOTHING};
 #[derive(Default)]
 pub struct Tally {
     kinds: BTreeMap<&'static str, u64>,
-    answers: BTreeMap<(u32, u32), u64>,
+    answers: BTreeMap<(&'static str, u32), u64>,
 }
 
 impl Tally {
     pub fn add(&mut self, kind: &'static str, answer: Verdict) {
+        self.add_in_words(kind, (name(answer.refused), answer.number));
+    }
+
+    /// An answer in words: about what it is, and its number.
+    pub fn add_in_words(&mut self, kind: &'static str, answer: (&'static str, u32)) {
         *self.kinds.entry(kind).or_default() += 1;
-        let said = (answer.refused, answer.number);
-        *self.answers.entry(said).or_default() += 1;
+        *self.answers.entry(answer).or_default() += 1;
     }
 
     pub fn inputs(&self) -> u64 {
@@ -28,7 +32,11 @@ impl Tally {
 
     /// How often this number was said about this file or call.
     pub fn times(&self, refused: u32, number: u32) -> u64 {
-        self.answers.get(&(refused, number)).copied().unwrap_or(0)
+        self.times_in_words((name(refused), number))
+    }
+
+    pub fn times_in_words(&self, answer: (&'static str, u32)) -> u64 {
+        self.answers.get(&answer).copied().unwrap_or(0)
     }
 
     pub fn print(&self, title: &str) {
@@ -36,8 +44,8 @@ impl Tally {
         for (kind, inputs) in &self.kinds {
             println!("  {inputs:8} {kind}");
         }
-        for (&(refused, number), times) in &self.answers {
-            println!("  {times:8} times {} {number}", name(refused));
+        for ((what, number), times) in &self.answers {
+            println!("  {times:8} times {what} {number}");
         }
     }
 }

@@ -3,7 +3,7 @@
 
 use std::collections::BTreeMap;
 
-use compare::answers::{SessionAnswer, ARRIVAL_LOG, BOOTH_TABLE, CALL, NOTHING};
+use compare::answers::{first_difference, SessionAnswer, ARRIVAL_LOG, BOOTH_TABLE, CALL, NOTHING};
 use compare::inputs::{
     damaged_files, largest_sessions, lent_record, long_sessions, randoms, Files, Session,
 };
@@ -34,11 +34,6 @@ fn compare(kind: &str, files: &Files, wall: &[u8], own: &[u8]) -> SessionAnswer 
         assert_eq!(first_difference(&own_played, &own_after), None, "{}", who());
     }
     expected
-}
-
-fn first_difference(said: &[u8], expected: &[u8]) -> Option<usize> {
-    assert_eq!(said.len(), expected.len());
-    said.iter().zip(expected).position(|(a, b)| a != b)
 }
 
 /// The session with records of these lengths, which hold random bytes before.
