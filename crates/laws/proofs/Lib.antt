@@ -24,3 +24,4 @@ pub mod SettleAgain
 pub mod Asleep
 pub mod RowSlices
 pub mod Course
+pub mod PrintedNumbers

@@ -3,7 +3,7 @@ use mathlib.Core.Path.{_≡_}
 use mathlib.Core.Logic.{_⊎_, _↔_}
 use mathlib.Core.Bool.{true, false}
 use mathlib.Core.List.{List, [], _∷_, _++_, map}
-use Prim.Native.Nat.{ℕ, suc, _+_, _-_, _*_, _≤_, _<_, min}
+use Prim.Native.Nat.{ℕ, suc, _+_, _-_, _*_, _^_, _≤_, _<_, min}
 use lib.Dec.{eqb}
 use lib.ListN.{length, getD, take, drop}
 use Rattle.rules.specs.declared.Promise.{Promise}
@@ -15,6 +15,7 @@ use Rattle.rules.specs.Due.{due, releasePoint}
 use Rattle.rules.specs.Moves.{Booth, nobody}
 use Rattle.rules.specs.Session.{Outcome, ownEntries, freshBooth, settledAt, count, nothingDone, session}
 use Rattle.rules.specs.SoloPart.{solo}
+use Rattle.rules.specs.Desk.{decimal}
 
 -- ---- 1. The laws of due
 
@@ -239,3 +240,16 @@ pub record Admission : Type 0 where
 -- where a contract says that an outcome is a function's value at the inputs, no two different outcomes satisfy it
 pub record Pinned : Type 1 where
   pub once : (In Out : Type 0) (f : In → Out) (x : In) (a b : Out) → a ≡ f x → b ≡ f x → a ≡ b
+
+-- ---- 8. The desk's numbers
+
+-- the number that decimal digits spell, behind a number already read
+unfoldable pub spelled : ℕ → List ℕ → ℕ
+spelled n [] = n
+spelled n (d ∷ ds) = spelled (n * 10 + (d - 48)) ds
+
+pub record PrintedNumbers : Type 0 where
+  -- a printed number of 64 bits reads back as itself
+  pub reads-back : (n : ℕ) → n < 2 ^ 64 → spelled 0 (decimal n) ≡ n
+  -- and begins with a zero only if it is zero
+  pub no-zero-first : (n : ℕ) → n < 2 ^ 64 → getD (decimal n) 0 0 ≡ 48 → n ≡ 0
