@@ -1,4 +1,4 @@
--- 8. Not empty talk: the audition of document 01 is an accepted session, and what the statements say of it.
+-- 9. Not empty talk: the audition of document 01 is an accepted session, and what the statements say of it.
 use mathlib.Core.Path.{_≡_, refl}
 use mathlib.Core.List.{List, [], _∷_}
 use Prim.Native.Nat.{ℕ}
