@@ -25,3 +25,4 @@ pub mod Asleep
 pub mod RowSlices
 pub mod Course
 pub mod PrintedNumbers
+pub mod HandedBack

@@ -15,6 +15,7 @@ use Rattle.rules.specs.Due.{due, releasePoint}
 use Rattle.rules.specs.Moves.{Booth, nobody}
 use Rattle.rules.specs.Session.{Outcome, ownEntries, freshBooth, settledAt, count, nothingDone, session}
 use Rattle.rules.specs.SoloPart.{solo}
+use Rattle.rules.specs.RowBack.{rowBack}
 use Rattle.rules.specs.Desk.{decimal}
 
 -- ---- 1. The laws of due
@@ -212,6 +213,10 @@ pub record Untouched : Type 0 where
   pub own : (s : Accepted) (n : ℕ) → booths s * ticks s ≤ n → getD ((outcome s) .own) n 0 ≡ getD (s .ownLent) n 0
   -- and both records are as long as they were
   pub lengths : (s : Accepted) → (length ((outcome s) .wall) ≡ length (s .wallLent)) × (length ((outcome s) .own) ≡ length (s .ownLent))
+
+-- asked for by its final own clock, each booth's row is handed back whole
+pub record HandedBack : Type 0 where
+  pub row : (s : Accepted) (i : ℕ) → i < booths s → rowBack ((outcome s) .own) (ticks s) i (clockOf s i) ≡ record { verdict = accepted; part = rowOf s i }
 
 -- ---- 6. Admission
 
