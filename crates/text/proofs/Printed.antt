@@ -41,17 +41,19 @@ module _ (table log wall own : List ℕ) where
   abbrev Given : Refused → Type 0
   Given w = (session table log wall own) .verdict .refused ≡ w
 
-  unlike-table : (r : Refusal) → session table log wall own ≡ nothingDone (refusedAs TheTable r) wall own → Given Nothing → ⊥
+  -- what is refused as something is not refused as nothing
+  unlike : (w : Refused) (r : Refusal) → (w ≡ Nothing → ⊥) → session table log wall own ≡ nothingDone (refusedAs w r) wall own → Given Nothing → ⊥
   unfolding nothingDone refusedAs
-  unlike-table r e h = let q : Given TheTable = ap (λ o. o .verdict .refused) e in let z : _≡_ {A = ℕ} 0 1 = cc in omega arith
+  unlike w r apart e h = apart (sym (ap (λ o. o .verdict .refused) e) ∙ h)
+
+  unlike-table : (r : Refusal) → session table log wall own ≡ nothingDone (refusedAs TheTable r) wall own → Given Nothing → ⊥
+  unlike-table r = unlike TheTable r (λ e. let z : _≡_ {A = ℕ} 0 1 = cc in omega arith)
 
   unlike-log : (r : Refusal) → session table log wall own ≡ nothingDone (refusedAs TheLog r) wall own → Given Nothing → ⊥
-  unfolding nothingDone refusedAs
-  unlike-log r e h = let q : Given TheLog = ap (λ o. o .verdict .refused) e in let z : _≡_ {A = ℕ} 0 1 = cc in omega arith
+  unlike-log r = unlike TheLog r (λ e. let z : _≡_ {A = ℕ} 0 1 = cc in omega arith)
 
   unlike-call : (r : Refusal) → session table log wall own ≡ nothingDone (refusedAs TheCall r) wall own → Given Nothing → ⊥
-  unfolding nothingDone refusedAs
-  unlike-call r e h = let q : Given TheCall = ap (λ o. o .verdict .refused) e in let z : _≡_ {A = ℕ} 0 1 = cc in omega arith
+  unlike-call r = unlike TheCall r (λ e. let z : _≡_ {A = ℕ} 0 1 = cc in omega arith)
 
   module _ (h : Given Nothing) where
     Fitting : Type 0

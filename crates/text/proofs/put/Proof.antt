@@ -14,7 +14,7 @@ Inv-loop out₀ at bytes i₀ out i =
     (i ≤ length bytes) × (length out ≡ length out₀) × Put at (take i bytes) out₀ out (at + i)
 
 abbrev μ-loop : tie.MeasureT-loop
-μ-loop out₀ at bytes i₀ out i = length (bytes) - i
+μ-loop out₀ at bytes i₀ out i = length bytes - i
 
 loop-holds : tie.Need-loop-holds Inv-loop μ-loop
 loop-holds c = (omega arith, refl, put-first (c .args .at) (c .args .out .now) (omega (arith, c .pre)))
