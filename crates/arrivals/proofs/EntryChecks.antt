@@ -1,12 +1,11 @@
 -- An entry's checks by the two arrays are the checks of the rules. Assumes nothing.
 use mathlib.Core.Path.{_≡_, refl, sym, ap, _∙_}
-use mathlib.Core.Bool.{Bool, true, false, not, _||_, true≢false}
-use mathlib.Core.List.{List, [], _∷_, map}
+use mathlib.Core.Bool.{Bool, true, false}
+use mathlib.Core.List.{List, _∷_, map}
 use mathlib.Core.Option.{Option, none, some}
 use Prim.Native.Nat.{ℕ, _+_, _*_, _≤_, _<_}
 use native.Mathlib.Omega.{arith}
 use borrow.Author.Tests.{eq-eqb, le-ltb, lt-leb, leb-false}
-use lib.Dec.{leb, ltb, eqb}
 use lib.ListN.{length, getD, take}
 use lib.Seq.{getD-take, length-take-le}
 use Rattle.rules.specs.declared.Table.{Table}
@@ -17,7 +16,7 @@ use Rattle.rules.specs.ArrivalLog.{Entry, entryAt, entryChecks, longestJobs}
 use Rattle.rules.specs.Values.{no-held-line, lineHeld, linesHeld}
 use Rattle.table.specs.Fit.{FitLine, FitTable}
 use Rattle.table.proofs.Test.{held-at, held-length}
-use Rattle.arrivals.specs.Limits.{TaskCounts, LongestJobs, Within, heldChecks}
+use Rattle.arrivals.specs.Limits.{TaskCounts, LongestJobs, Within, demandChecks, heldChecks}
 
 -- ---- where only the demand is left to check
 
@@ -29,20 +28,20 @@ pub record Known (booths : ℕ) (tasks : List ℕ) (H before : ℕ) (bs : List �
   pub booth : (entryAt bs at) .booth < booths
   pub task : (entryAt bs at) .task < getD tasks ((entryAt bs at) .booth) 0
 
-pub demand-left : (booths : ℕ) (tasks longest : List ℕ) (H before : ℕ) (bs : List ℕ) (at : ℕ) → Known booths tasks H before bs at
-    → firstFault (heldChecks booths tasks longest H before bs at)
-    ≡ firstFault
-    (refuseIf (eqb ((entryAt bs at) .demand) 0 || ltb (getD longest ((entryAt bs at) .booth * 8 + (entryAt bs at) .task) 0) ((entryAt bs at) .demand)) 10 at ∷ [])
+pub demand-left : (booths : ℕ) (tasks longest : List ℕ) (H before : ℕ) (bs : List ℕ) (at : ℕ) → Known booths tasks H before bs at → (booth task demand : ℕ)
+    → booth ≡ (entryAt bs at) .booth → task ≡ (entryAt bs at) .task → demand ≡ (entryAt bs at) .demand
+    → firstFault (demandChecks (getD longest (booth * 8 + task) 0) demand at) ≡ firstFault (heldChecks booths tasks longest H before bs at)
 unfolding heldChecks firstFault refuseIf
-demand-left booths tasks longest H before bs at k =
-    simp (
+demand-left booths tasks longest H before bs at k booth task demand b t d =
+    rw (b, t, d)
+    (simp (
       eq-eqb _ _ (k .eight),
       le-ltb _ _ (k .whole),
       lt-leb _ _ (k .early),
       le-ltb _ _ (k .later),
       lt-leb _ _ (k .booth),
       lt-leb _ _ (k .task),
-    )
+    ))
 
 -- ---- the same checks by the table's lines
 
@@ -81,7 +80,7 @@ module _ (table : Table) (tasks longest : List ℕ) (fit : FitTable table) (coun
 
   pub by-arrays : (H before : ℕ) (bs : List ℕ) (at : ℕ)
       → firstFault (heldChecks (table .booths) tasks longest H before bs at) ≡ firstFault (entryChecks (linesHeld table) H before bs at)
-  unfolding heldChecks entryChecks
+  unfolding heldChecks demandChecks entryChecks
   by-arrays H before bs at =
       let e = entryAt bs at in
       rw lines-count
