@@ -5,7 +5,7 @@ use mathlib.Core.Bool.{Bool, true, false, not, _&&_, true≢false, false≢true}
 use mathlib.Core.List.{List, [], _∷_, _++_, map}
 use Prim.Native.Nat.{ℕ, zero, suc, _+_, _-_, _*_, _/_, _%_, _≤_, _<_}
 use native.Mathlib.Decide.{ℕ-discrete, decLe}
-use native.Mathlib.Nat.{not-suc-le-zero, le-of-suc-le-suc, zero-add, mul-le-mul-right}
+use native.Mathlib.Nat.{not-suc-le-zero, le-of-suc-le-suc, add-zero, zero-add, mul-le-mul-right}
 use native.Mathlib.Numerals.{add-one}
 use native.Mathlib.Omega.{arith}
 use lib.Dec.{leb, ltb, eqb}
@@ -40,7 +40,7 @@ use Rattle.booth.specs.Shown.{AfterSettle, AfterPlay, entriesFrom, waitingAt, f
 use Rattle.booth.proofs.Rows.{agree-later}
 use Rattle.booth.proofs.Demand.{First, first-here, first-taken, eight-none, none-taken, demand-or-none}
 use Rattle.booth.proofs.Waiting.{whole-entry, waiting-sorted, waiting-end, waiting-own}
-use Rattle.session.specs.Running.{entriesOf, nowhere, linesOf, Same, Alike, Set, Running, Ending, Ended, OpenedTo}
+use Rattle.session.specs.Running.{entriesOf, nowhere, linesOf, Same, Alike, Set, Running, NextAwake, Ending, Ended, OpenedTo}
 
 -- ---- what a held booth shows
 
@@ -513,6 +513,24 @@ module _ (n H : ℕ) (start : List HeldBooth) (bs wall₀ own₀ : List ℕ) (t 
               less k answer h' part' (after' .fit bs (after .fit)) (after' .number ∙ number) (omega (arith, after' .clock, clock-short)) same-long state″ rest″ (omega (arith, after' .clock))));
           idle-small = omega (arith, g .idle-small);
         })
+
+-- ---- the booths that sleep are passed over
+
+sleeps-on : (d n H : ℕ) (start : List HeldBooth) (bs wall₀ own₀ : List ℕ) (t i : ℕ) (hs : List HeldBooth) (wakes worked : List ℕ) (idle : ℕ) (wall own : List ℕ)
+    → Going n H start bs wall₀ own₀ t i hs wakes worked idle wall own → i + d ≤ n → ((j : ℕ) → j < i + d → i ≤ j → t < getD wakes j 0) → Going n H start bs wall₀ own₀ t (i + d) hs wakes worked idle wall own
+sleeps-on zero n H start bs wall₀ own₀ t i hs wakes worked idle wall own g within asleep = subst (λ k. Going n H start bs wall₀ own₀ t k hs wakes worked idle wall own) (sym (add-zero i)) g
+sleeps-on (suc d) n H start bs wall₀ own₀ t i hs wakes worked idle wall own g within asleep =
+    let e : i + 1 + d ≡ i + suc d = omega arith in
+    subst (λ k. Going n H start bs wall₀ own₀ t k hs wakes worked idle wall own) e
+    (sleeps-on d n H start bs wall₀ own₀ t (i + 1) hs wakes worked idle wall own (going-sleeps n H start bs wall₀ own₀ t i hs wakes worked idle wall own g (λ q. omega arith) (asleep i (omega arith) (omega arith)))
+    (omega arith) (λ j l m. asleep j (omega arith) (omega arith)))
+
+pub going-on : (n H : ℕ) (start : List HeldBooth) (bs wall₀ own₀ : List ℕ) (t i : ℕ) (hs : List HeldBooth) (wakes worked : List ℕ) (idle : ℕ) (wall own : List ℕ)
+    → Going n H start bs wall₀ own₀ t i hs wakes worked idle wall own → (k : ℕ) → NextAwake wakes n i t k → Going n H start bs wall₀ own₀ t k hs wakes worked idle wall own
+going-on n H start bs wall₀ own₀ t i hs wakes worked idle wall own g k a =
+    let e : i + (k - i) ≡ k = omega (arith, a .later) in
+    subst (λ m. Going n H start bs wall₀ own₀ t m hs wakes worked idle wall own) e
+    (sleeps-on (k - i) n H start bs wall₀ own₀ t i hs wakes worked idle wall own g (omega (arith, a .within)) (λ j l m. a .asleep j (omega (arith, a .later)) m))
 
 -- the task that a settled booth answers with is its first with demand
 pub chosen-first : (bs : List ℕ) (t : ℕ) (h : HeldBooth) (part : List ℕ) (k : ℕ) → Steady h → settledAnswer t (shown bs h part) ≡ Task k → (k < 8) × (k ≡ h .first)
