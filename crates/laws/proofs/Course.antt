@@ -26,7 +26,7 @@ use Rattle.laws.proofs.SettleAgain.{in-order-later, settled-in-order, s
 use Rattle.laws.proofs.FirstWorker.{first-works, none-works}
 use Rattle.laws.proofs.Run.{AsRead, getD-map, length-open, open-at, opened, length-booths, wall-start, wall-step}
 use Rattle.laws.proofs.WallRecord.{length-wall}
-use Rattle.laws.proofs.Counting.{count-nil, count-last-same, count-last-other}
+use Rattle.rules.proofs.Counting.{count-nil, count-last-same, count-last-other}
 use Rattle.laws.proofs.LentRows.{ShortRows}
 use Rattle.laws.proofs.RowSlices.{rows-open, row-moved, short-set, short-at}
 

@@ -19,6 +19,7 @@ use Rattle.rules.specs.Moves.{Booth, nobody, noDemand, settle, mayWork, firstTa
 use Rattle.rules.specs.declared.Line.{Line as HeldLine}
 use Rattle.rules.specs.Session.{ownEntries, freshBooth, settledAt, writeRows, count, workedFrom}
 use Rattle.rules.specs.Values.{padded, lineHeld, linesHeld, no-held-line}
+use Rattle.rules.proofs.Counting.{count-most}
 use Rattle.rules.proofs.Held.{length-padded, getD-padded, set-padded}
 use Rattle.laws.proofs.WallRecord.{worked-at, length-worked, length-wall}
 use Rattle.laws.proofs.DueLaws.{due-at-most}
@@ -323,15 +324,6 @@ worked-are worked wall n few eight counted others =
         ∙ sym (getD-padded 8 0 (workedFrom 0 n wall) j 0 (omega (arith, length-worked 0 n wall)))
 
 -- ---- what the loop over wall ticks keeps
-
-count-most : (k : ℕ) (xs : List ℕ) → count k xs ≤ length xs
-unfolding count
-count-most k [] = omega arith
-count-most k (x ∷ xs) = go (eqb x k) refl (count-most k xs)
-  where
-    go : (c : Bool) → eqb x k ≡ c → count k xs ≤ length xs → count k (x ∷ xs) ≤ suc (length xs)
-    go true q ih = rw (q, count) (omega arith)
-    go false q ih = rw (q, count) (omega arith)
 
 pub record Going (n H : ℕ) (start : List HeldBooth) (bs wall₀ own₀ : List ℕ) (t i : ℕ) (hs : List HeldBooth) (wakes worked : List ℕ) (idle : ℕ) (wall own : List ℕ) : Type 0 where
   pub early : t ≤ H
