@@ -10,6 +10,12 @@ use Rattle.rules.specs.declared.Line.{Line as HeldLine}
 use Rattle.rules.specs.BoothTable.{Line, no-line, booths-allowed, tasks-allowed}
 use Rattle.rules.specs.Values.{padded, heldLine, heldTable, lineHeld, linesHeld}
 
+-- every place of an array of zeros, and past its end
+pub zeros : (n j : ℕ) → getD {A = ℕ} (replicate n 0) j 0 ≡ 0
+zeros zero j = refl
+zeros (suc n) zero = refl
+zeros (suc n) (suc j) = zeros n j
+
 module _ {A : Type 0} (n : ℕ) (d : A) where
   pub length-padded : (xs : List A) → length xs ≤ n → length (padded n d xs) ≡ n
   unfolding padded

@@ -5,7 +5,7 @@ use mathlib.Core.Bool.{Bool, true, false, not, _&&_, true≢false, false≢true}
 use mathlib.Core.List.{List, [], _∷_, _++_, map}
 use Prim.Native.Nat.{ℕ, zero, suc, _+_, _-_, _*_, _/_, _%_, _≤_, _<_}
 use native.Mathlib.Decide.{ℕ-discrete, decLe}
-use native.Mathlib.Nat.{not-suc-le-zero, le-of-suc-le-suc, add-zero, zero-add, mul-le-mul-right}
+use native.Mathlib.Nat.{not-suc-le-zero, add-zero, zero-add, mul-le-mul-right}
 use native.Mathlib.Numerals.{add-one}
 use native.Mathlib.Omega.{arith}
 use lib.Dec.{leb, ltb, eqb}
@@ -20,13 +20,13 @@ use Rattle.rules.specs.declared.Line.{Line as HeldLine}
 use Rattle.rules.specs.Session.{ownEntries, freshBooth, settledAt, writeRows, count, workedFrom}
 use Rattle.rules.specs.Values.{padded, lineHeld, linesHeld, no-held-line}
 use Rattle.rules.proofs.Counting.{count-most}
-use Rattle.rules.proofs.Held.{length-padded, getD-padded, set-padded}
+use Rattle.rules.proofs.Held.{zeros, length-padded, getD-padded, set-padded}
 use Rattle.laws.proofs.WallRecord.{worked-at, length-worked, length-wall}
 use Rattle.laws.proofs.DueLaws.{due-at-most}
 use Rattle.table.specs.Fit.{Sounds}
 use Rattle.laws.specs.Statements.{Sound}
 use Rattle.laws.proofs.QuickSettle.{InOrder, Late}
-use Rattle.laws.proofs.Run.{AsRead}
+use Rattle.laws.proofs.Run.{AsRead, getD-map}
 use Rattle.laws.proofs.SettleAgain.{in-order-later}
 use Rattle.laws.proofs.Asleep.{asleep-silent, asleep-busy, opens}
 use Rattle.laws.proofs.RowSlices.{slice-of}
@@ -280,11 +280,6 @@ module _ (ls : List Line) (H : ℕ) (bs wall₀ own₀ : List ℕ) (as-read : As
 
 -- ---- what is answered
 
-map-at : {A : Type 0} (f : A → ℕ) (xs : List A) (j : ℕ) (d : A) → j < length xs → getD (map f xs) j 0 ≡ f (getD xs j d)
-map-at f [] j d h = absurd (not-suc-le-zero h)
-map-at f (x ∷ xs) zero d h = refl
-map-at f (x ∷ xs) (suc j) d h = map-at f xs j d (le-of-suc-le-suc h)
-
 pub clocks-are : (bs : List ℕ) (n : ℕ) (hs : List HeldBooth) (booths : List Booth) → Alike bs n hs booths → n ≤ 8 → length booths ≡ n
     → map (λ h. h .clock .0) (take n hs) ≡ map (λ b. b .u) booths
 clocks-are bs n hs booths a few size =
@@ -293,21 +288,16 @@ clocks-are bs n hs booths a few size =
     (length-map (take n hs) (λ h. h .clock .0) ∙ short ∙ sym (length-map booths (λ b. b .u) ∙ size))
     (λ j l.
     let there : j < n = omega (arith, length-map (take n hs) (λ h. h .clock .0), short) in
-    map-at (λ h. h .clock .0) (take n hs) j nowhere (omega arith)
+    getD-map (λ h. h .clock .0) (take n hs) j nowhere 0 (omega arith)
     ∙ ap (λ h. h .clock .0) (getD-take n hs j nowhere there)
     ∙ sym ((a .same j there) .clock)
-    ∙ sym (map-at (λ b. b .u) booths j nobooth (omega (arith, size))))
+    ∙ sym (getD-map (λ b. b .u) booths j nobooth 0 (omega (arith, size))))
 
 padded-past : (xs : List ℕ) (n j : ℕ) → length xs ≤ j → getD (padded n 0 xs) j 0 ≡ 0
 unfolding padded
 padded-past xs n j h =
     let e : j ≡ length xs + (j - length xs) = omega arith in
     ap (λ k. getD (xs ++ replicate (n - length xs) 0) k 0) e ∙ getD-append-add xs (replicate (n - length xs) 0) (j - length xs) 0 ∙ zeros (n - length xs) (j - length xs)
-  where
-    zeros : (m k : ℕ) → getD {A = ℕ} (replicate m 0) k 0 ≡ 0
-    zeros zero k = refl
-    zeros (suc m) zero = refl
-    zeros (suc m) (suc k) = zeros m k
 
 pub worked-are : (worked wall : List ℕ) (n : ℕ) → n ≤ 8 → length worked ≡ 8 → ((j : ℕ) → j < n → getD worked j 0 ≡ count j wall) → ((j : ℕ) → n ≤ j → getD worked j 0 ≡ 0)
     → worked ≡ padded 8 0 (workedFrom 0 n wall)

@@ -1,22 +1,22 @@
 -- From an accepted table and log to the answer: how the run begins, and what is left when it has ended. Assumes nothing.
 use mathlib.Core.Path.{_≡_, refl, sym, ap, _∙_, subst}
-use mathlib.Core.List.{List, [], _∷_, _++_, map}
-use Prim.Native.Nat.{ℕ, zero, suc, _+_, _-_, _*_, _≤_, _<_}
+use mathlib.Core.List.{List, [], _++_, map}
+use Prim.Native.Nat.{ℕ, _+_, _-_, _*_, _≤_, _<_}
 use native.Mathlib.Nat.{zero-add}
 use native.Mathlib.Omega.{arith}
-use lib.ListN.{length, getD, take, set, replicate, length-map, length-replicate}
+use lib.ListN.{length, getD, take, set, length-map, length-replicate}
 use lib.Seq.{ext-getD, getD-take, length-take-le}
 use Rattle.rules.specs.declared.Table.{Table}
 use Rattle.rules.specs.declared.Refused.the-variants.{Nothing}
 use Rattle.rules.specs.Bytes.{written}
 use Rattle.rules.specs.Refusals.{refusal, accepted}
-use Rattle.rules.specs.BoothTable.{Line, no-line}
+use Rattle.rules.specs.BoothTable.{no-line}
 use Rattle.rules.specs.ArrivalLog.{Entry, Log}
 use Rattle.rules.specs.Moves.{Booth, nobody}
 use Rattle.rules.specs.Session.{ownEntries, freshBooth, openBooths, settledAt, count, workedFrom, writeRows, played}
 use Rattle.rules.specs.Values.{padded, lineHeld, linesHeld, no-held-line}
 use Rattle.table.proofs.Test.{held-at, held-length}
-use Rattle.laws.proofs.Run.{AsRead, open-at, length-booths}
+use Rattle.laws.proofs.Run.{AsRead, getD-map, open-at, length-booths}
 use Rattle.laws.proofs.Course.{nobooth, Course, Closing, begins, closes, closed}
 use Rattle.booth.specs.declared.Booth.{Booth as HeldBooth}
 use Rattle.booth.specs.Shown.{shown}
@@ -25,7 +25,7 @@ use Rattle.rules.specs.Refusals.{taken}
 use Rattle.rules.specs.ArrivalLog.{readLog}
 use Rattle.rules.specs.Admission.{readTable}
 use Rattle.rules.specs.Session.{Outcome, nothingDone, session}
-use Rattle.rules.proofs.Held.{lines-held}
+use Rattle.rules.proofs.Held.{zeros, lines-held}
 use Rattle.table.specs.declared.TableAnswer.{TableAnswer}
 use Rattle.table.specs.Fit.{FitTable}
 use Rattle.table.proofs.Numbers.{TableTaken}
@@ -48,11 +48,6 @@ made n clocks worked idle = record { verdict = record { refused = Nothing; refus
 
 made-same : {n m : ℕ} {c d w v : List ℕ} {i j : ℕ} → n ≡ m → c ≡ d → w ≡ v → i ≡ j → made n c w i ≡ made m d v j
 made-same {n} {m} {c} {d} {w} {v} {i} {j} p q r s = ap (λ x. made x c w i) p ∙ ap (λ x. made m x w i) q ∙ ap (λ x. made m d x i) r ∙ ap (λ x. made m d v x) s
-
-map-held : (f : HeldBooth → Line) (xs : List HeldBooth) (j : ℕ) (d : Line) → j < length xs → getD (map f xs) j d ≡ f (getD xs j nowhere)
-map-held f [] j d h = absurd (native.Mathlib.Nat.not-suc-le-zero h)
-map-held f (x ∷ xs) zero d h = refl
-map-held f (x ∷ xs) (suc j) d h = map-held f xs j d (native.Mathlib.Nat.le-of-suc-le-suc h)
 
 module _ (table : Table) (bs wall own : List ℕ) (H : ℕ) (p : Playable table bs wall own H) (hs : List HeldBooth) (o : OpenedTo (table .booths) (table .lines) bs hs) where
   n : ℕ
@@ -78,7 +73,7 @@ module _ (table : Table) (bs wall own : List ℕ) (H : ℕ) (p : Playable table 
       ext-getD no-line (map (λ h. lineHeld (h .line)) (take (table .booths) hs)) (linesHeld table) (long ∙ sym lines-short)
       (λ j l.
       let there : j < table .booths = omega arith in
-      map-held (λ h. lineHeld (h .line)) (take (table .booths) hs) j no-line (omega arith)
+      getD-map (λ h. lineHeld (h .line)) (take (table .booths) hs) j nowhere no-line (omega arith)
       ∙ ap (λ h. lineHeld (h .line)) (getD-take (table .booths) hs j nowhere there)
       ∙ ap lineHeld (o .line j there)
       ∙ sym (line-at j there))
@@ -112,11 +107,6 @@ module _ (table : Table) (bs wall own : List ℕ) (H : ℕ) (p : Playable table 
         };
       }
     where
-      zeros : (m k : ℕ) → getD {A = ℕ} (replicate m 0) k 0 ≡ 0
-      zeros zero k = refl
-      zeros (suc m) zero = refl
-      zeros (suc m) (suc k) = zeros m k
-
       opens : (j : ℕ) → j < table .booths
           → getD (openBooths 0 (linesOf (table .booths) hs) (entriesOf bs)) j nobooth ≡ freshBooth (lineHeld (getD (table .lines) j no-held-line)) (ownEntries j (entriesOf bs))
       opens j l =
