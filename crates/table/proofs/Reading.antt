@@ -20,11 +20,12 @@ use Rattle.rules.specs.Admission.{firstFailing, readTable}
 use Rattle.rules.specs.Values.{padded, heldLine, heldTable, no-held-line}
 use Rattle.rules.proofs.Checks.{passed, neither}
 use Rattle.rules.proofs.Held.{length-padded, set-padded, getD-padded}
+use Rattle.rules.proofs.Records.{length-jobs, allowed-range}
 use Rattle.table.specs.declared.Records.{Records}
 use Rattle.table.specs.declared.TableAnswer.{TableAnswer}
 use Rattle.table.specs.Answer.{recordsRead, noRecords, answered, refusedTable, notAdmitted}
 use Rattle.table.specs.Fit.{FitLine, FitLines, FitTable}
-use Rattle.table.proofs.Lines.{length-jobs, allowed-range, no-zero}
+use Rattle.table.proofs.Lines.{no-zero}
 
 -- ---- one step of the rules' reader
 
