@@ -12,9 +12,11 @@ use lib.Seq.{take-suc, drop-cons, take-take, getD-take, length-take-le}
 use lib.Dec.{leb}
 use Rattle.rules.specs.declared.Line.{Line as HeldLine}
 use Rattle.rules.specs.declared.Promise.{Promise}
-use Rattle.rules.specs.BoothTable.{Line}
+use Rattle.rules.specs.declared.Table.{Table}
+use Rattle.rules.specs.BoothTable.{Line, no-line}
 use Rattle.rules.specs.Admission.{roundedUp, askedAbove, someUpTo, passes, firstFailing}
-use Rattle.rules.specs.Values.{lineHeld, no-held-line}
+use Rattle.rules.specs.Values.{lineHeld, linesHeld, no-held-line}
+use Rattle.table.specs.Fit.{FitTable}
 
 -- what one booth more asks
 asked-snoc : (ls : List Line) (l : Line) (R : ℕ) → askedAbove (ls ++ (l ∷ [])) R ≡ askedAbove ls R + l .promise .allowance * roundedUp R (l .promise .period)
@@ -94,3 +96,12 @@ held-at lines n i h = List·getD-map lineHeld (take n lines) i no-held-line ∙ 
 
 pub held-length : (lines : List HeldLine) (n : ℕ) → n ≤ length lines → length (map lineHeld (take n lines)) ≡ n
 held-length lines n h = length-map (take n lines) lineHeld ∙ length-take-le n lines h
+
+-- the lines of a table as the code holds it
+pub lines-in : (t : Table) → FitTable t → length (linesHeld t) ≡ t .booths
+unfolding linesHeld
+lines-in t f = held-length (t .lines) (t .booths) (omega (arith, f .lines .few, f .lines .eight))
+
+pub line-in : (t : Table) (j : ℕ) → j < t .booths → getD (linesHeld t) j no-line ≡ lineHeld (getD (t .lines) j no-held-line)
+unfolding linesHeld lineHeld no-line
+line-in t j h = held-at (t .lines) (t .booths) j h

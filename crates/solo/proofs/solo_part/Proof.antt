@@ -15,7 +15,8 @@ use Rattle.rules.proofs.Held.{lines-held}
 use Rattle.table.proofs.Numbers.{answer-taken, answer-refused}
 use Rattle.arrivals.proofs.Numbers.{Took, number-zero, number-not-zero}
 use Rattle.solo.specs.Alone.{ownIn}
-use Rattle.solo.proofs.Cases.{lines-in, line-in, Fits, call-passed, bad-table, bad-log, bad-call, part-written}
+use Rattle.table.proofs.Test.{lines-in, line-in}
+use Rattle.solo.proofs.Cases.{Fits, call-passed, bad-table, bad-log, bad-call, part-written}
 use Rattle.solo.proofs.OneBooth.{own-are, alone, due-small}
 use borrow.Author.Needs.{needs}
 use Rattle.solo.proofs.solo_part.Statement.{statement}
