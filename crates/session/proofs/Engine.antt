@@ -2,7 +2,7 @@
 use mathlib.Core.Path.{_≡_, refl, sym, ap, _∙_, subst}
 use mathlib.Core.Logic.{_⊎_, inl, inr, _≢_}
 use mathlib.Core.Bool.{Bool, true, false, not, _&&_, true≢false, false≢true}
-use mathlib.Core.List.{List, [], _∷_, _++_, map}
+use mathlib.Core.List.{List, [], _++_, map}
 use Prim.Native.Nat.{ℕ, zero, suc, _+_, _-_, _*_, _/_, _%_, _≤_, _<_}
 use native.Mathlib.Decide.{ℕ-discrete, decLe}
 use native.Mathlib.Nat.{not-suc-le-zero, add-zero, zero-add, mul-le-mul-right}
@@ -10,7 +10,7 @@ use native.Mathlib.Numerals.{add-one}
 use native.Mathlib.Omega.{arith}
 use lib.Dec.{leb, ltb, eqb}
 use lib.ListN.{length-append, length, getD, take, drop, set, replicate, length-set, length-take, length-drop, length-map, take-append-drop}
-use lib.Seq.{getD-set-same, getD-set-other, length-take-le, ext-getD, getD-take, getD-append-add, take-suc}
+use lib.Seq.{getD-set-same, getD-set-other, length-take-le, ext-getD, getD-take, getD-append-add}
 use borrow.Author.Tests.{eqb-true, eqb-false}
 use Rattle.rules.specs.BoothTable.{Line}
 use Rattle.rules.specs.ArrivalLog.{Entry, Log, entryAt}
@@ -20,7 +20,7 @@ use Rattle.rules.specs.declared.Line.{Line as HeldLine}
 use Rattle.rules.specs.Session.{ownEntries, freshBooth, settledAt, writeRows, count, workedFrom}
 use Rattle.rules.specs.Values.{padded, lineHeld, linesHeld, no-held-line}
 use Rattle.rules.proofs.Counting.{count-most}
-use Rattle.rules.proofs.Held.{zeros, length-padded, getD-padded, set-padded}
+use Rattle.rules.proofs.Held.{zeros, map-take, length-padded, getD-padded, set-padded}
 use Rattle.laws.proofs.WallRecord.{worked-at, length-worked, length-wall}
 use Rattle.laws.proofs.DueLaws.{due-at-most}
 use Rattle.table.specs.Fit.{Sounds}
@@ -631,11 +631,4 @@ one-clock hs i clocks is few eight =
     ap (λ xs. set xs i ((getD hs i nowhere) .clock .0)) is
     ∙ ap (λ k. set (padded 8 0 noted) k ((getD hs i nowhere) .clock .0)) (sym size)
     ∙ set-padded 8 0 noted ((getD hs i nowhere) .clock .0) (omega arith)
-    ∙ ap (padded 8 0) (sym (more hs i (omega (arith, eight))))
-  where
-    map-more : (xs : List HeldBooth) (x : HeldBooth) → map (λ h. h .clock .0) (xs ++ (x ∷ [])) ≡ map (λ h. h .clock .0) xs ++ (x .clock .0 ∷ [])
-    map-more [] x = refl
-    map-more (y ∷ xs) x = ap (λ r. y .clock .0 ∷ r) (map-more xs x)
-
-    more : (hs : List HeldBooth) (i : ℕ) → i < length hs → map (λ h. h .clock .0) (take (i + 1) hs) ≡ map (λ h. h .clock .0) (take i hs) ++ ((getD hs i nowhere) .clock .0 ∷ [])
-    more hs i l = ap (λ k. map (λ h. h .clock .0) (take k hs)) (add-one i) ∙ ap (map (λ h. h .clock .0)) (take-suc hs i nowhere l) ∙ map-more (take i hs) (getD hs i nowhere)
+    ∙ ap (padded 8 0) (sym (map-take (λ h. h .clock .0) hs i nowhere (omega (arith, eight))))
