@@ -25,7 +25,7 @@ element-copy-out-if1 c = search needs
 returns : tie.Need-returns Inv-loop μ-loop
 returns c =
     let l = c .before .before .before .loop in
-    record { later = l .inv .0; within = l .inv .1; asleep = l .inv .2; awake = λ _. c .if1 .taken }
+    record { later = l .inv .0; within = l .inv .1; asleep = l .inv .2; awake = λ _. omega arith }
 
 add-i : tie.Need-add-i Inv-loop μ-loop
 add-i c = search needs
@@ -34,7 +34,7 @@ loop-less : tie.Need-loop-less Inv-loop μ-loop
 loop-less c = search needs
 
 loop-again : tie.Need-loop-again Inv-loop μ-loop
-loop-again c = (omega arith, omega arith, below-more _ _ (c .before .before .before .loop .inv .2) (λ _. c .if1 .left))
+loop-again c = (omega arith, omega arith, below-more _ _ (c .before .before .before .loop .inv .2) (λ _. omega arith))
 
 returns-2 : tie.Need-returns-2 Inv-loop μ-loop
 returns-2 c =
