@@ -1,4 +1,5 @@
-//! Random sessions that a session must accept, and the bytes of given values.
+//! Random sessions that a session must accept, a full house and a log of every
+//! tick, and the bytes of given values.
 
 use crate::arrivals::{self, Entry, Log, ENTRY_LENGTH};
 use crate::random::Random;
@@ -181,6 +182,33 @@ fn random_entry(tick: WallTick, table: &Table, random: &mut Random) -> Entry {
         booth,
         task,
         demand: random.between(least, longest_jobs[task]),
+    }
+}
+
+/// Eight booths of 1 in 8 with eight tasks each: the longest table, admitted
+/// since booth i passes at R = i + 1.
+pub fn full_house(longest_job: u64) -> Table {
+    let line = Line {
+        period: 8,
+        allowance: 1,
+        longest_jobs: vec![longest_job; 8],
+    };
+    Table {
+        lines: vec![line; 8],
+    }
+}
+
+/// An entry for each of `count` ticks from 0, all for the first task of booth 0.
+pub fn every_tick(h: u64, count: u64) -> Log {
+    let entry = |tick| Entry {
+        tick: WallTick(tick),
+        booth: 0,
+        task: 0,
+        demand: 1,
+    };
+    Log {
+        wall_ticks: WallTick(h),
+        entries: (0..count).map(entry).collect(),
     }
 }
 

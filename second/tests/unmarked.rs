@@ -9,7 +9,7 @@ use changed::with;
 use lent::{play, untouched};
 use second::arrivals::{Entry, Log};
 use second::desk::desk;
-use second::generate::{log_bytes, table_bytes};
+use second::generate::{every_tick, full_house, log_bytes, table_bytes};
 use second::refusal::Refusal;
 use second::session::Refused;
 use second::solo::solo_part;
@@ -24,33 +24,6 @@ fn always() -> Table {
             allowance: 1,
             longest_jobs: vec![1],
         }],
-    }
-}
-
-/// Eight booths of 1 in 8 with eight tasks each: the longest table, admitted
-/// since booth i passes at R = i + 1.
-fn full_house(longest_job: u64) -> Table {
-    let line = Line {
-        period: 8,
-        allowance: 1,
-        longest_jobs: vec![longest_job; 8],
-    };
-    Table {
-        lines: vec![line; 8],
-    }
-}
-
-/// An entry for each of `count` ticks from 0, all for the first task of booth 0.
-fn every_tick(h: u64, count: u64) -> Log {
-    let entry = |tick| Entry {
-        tick: WallTick(tick),
-        booth: 0,
-        task: 0,
-        demand: 1,
-    };
-    Log {
-        wall_ticks: WallTick(h),
-        entries: (0..count).map(entry).collect(),
     }
 }
 

@@ -1,7 +1,7 @@
 -- Demand by task in an array, and the first task that has some. Assumes nothing.
 use mathlib.Core.Path.{_≡_, refl, sym, ap, _∙_, subst}
 use mathlib.Core.Logic.{_⊎_, inl, inr, ⊎-elim, _≢_}
-use mathlib.Core.Bool.{Bool, true, false, true≢false, false≢true}
+use mathlib.Core.Bool.{Bool, true, false, true≢false}
 use mathlib.Core.List.{List, [], _∷_}
 use Prim.Native.Nat.{ℕ, zero, suc, _+_, _-_, _≤_, suc-le-suc, _<_}
 use native.Mathlib.Decide.{ℕ-discrete, decLe}
@@ -12,6 +12,7 @@ use lib.ListN.{length, getD, take, set, length-set, List·getD-eq-default, lengt
 use lib.Seq.{getD-set-same, getD-set-other, getD-take, take-set-lt}
 use borrow.Author.Tests.{eq-eqb, ne-eqb}
 use Rattle.rules.specs.Moves.{noDemand, firstTask, addDemand, loseOne}
+use Rattle.laws.proofs.Tasks.{no-demand-zero}
 use Rattle.booth.specs.Shown.{firstOf}
 
 -- task k is the first with demand
@@ -66,13 +67,6 @@ found-from i (suc d ∷ ds) e = (0, (add-zero i, record { there = omega arith; s
 pub found-first : (ds : List ℕ) → noDemand ds ≡ false → First ds (firstTask 0 ds)
 found-first ds e = let r = found-from 0 ds e in subst (First ds) (sym (zero-add (r .0)) ∙ r .1 .0) (r .1 .1)
 
-pub all-zero : (ds : List ℕ) → noDemand ds ≡ true → (j : ℕ) → getD ds j 0 ≡ 0
-unfolding noDemand
-all-zero [] e j = refl
-all-zero (zero ∷ ds) e zero = refl
-all-zero (zero ∷ ds) e (suc j) = all-zero ds e j
-all-zero (suc d ∷ ds) e j = absurd (false≢true e)
-
 -- a task with demand before which there is none is the first
 pub is-first : (ds : List ℕ) (k : ℕ) → 0 < getD ds k 0 → ((j : ℕ) → j < k → getD ds j 0 ≡ 0) → First ds k
 is-first ds k some before = record { there = there (decLe (length ds) k); some = some; before = before }
@@ -91,7 +85,7 @@ demand-or-none ds = go (noDemand ds) refl
     go false q = inr (q, rw (q, firstOf) (found-first ds q))
 
 pub before-first : (ds : List ℕ) (j : ℕ) → j < firstOf ds → getD ds j 0 ≡ 0
-before-first ds j h = ⊎-elim (λ w. all-zero ds (w .0) j) (λ w. w .1 .before j h) (demand-or-none ds)
+before-first ds j h = ⊎-elim (λ w. no-demand-zero ds (w .0) j) (λ w. w .1 .before j h) (demand-or-none ds)
 
 -- with eight tasks at most, the first is 8 exactly where none has demand
 pub eight-none : (ds : List ℕ) → length ds ≤ 8 → eqb (firstOf ds) 8 ≡ noDemand ds
@@ -150,7 +144,7 @@ module _ (n : ℕ) (ds : List ℕ) (zeros : (k : ℕ) → n ≤ k → getD ds k 
 
   pub none-taken : noDemand (take n ds) ≡ noDemand ds
   none-taken =
-      ⊎-elim (λ w. no-demand (take n ds) (λ j l. getD-take n ds j 0 (omega (arith, length-take n ds)) ∙ all-zero ds (w .0) j) ∙ sym (w .0))
+      ⊎-elim (λ w. no-demand (take n ds) (λ j l. getD-take n ds j 0 (omega (arith, length-take n ds)) ∙ no-demand-zero ds (w .0) j) ∙ sym (w .0))
       (λ w. (first-here (take n ds) (firstOf ds) (first-taken (firstOf ds) (w .1))) .0 ∙ sym (w .0)) (demand-or-none ds)
 
   pub lose-taken : (k : ℕ) → First ds k → loseOne (take n ds) ≡ take n (set ds k (getD ds k 0 - 1))

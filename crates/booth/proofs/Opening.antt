@@ -10,6 +10,7 @@ use Rattle.rules.specs.ArrivalLog.{entryAt}
 use Rattle.rules.specs.Moves.{noDemand}
 use Rattle.rules.specs.Session.{freshBooth}
 use Rattle.rules.specs.Values.{lineHeld}
+use Rattle.rules.proofs.Held.{zeros}
 use Rattle.table.specs.Fit.{FitLine}
 use Rattle.booth.specs.declared.Booth.{Booth as HeldBooth}
 use Rattle.booth.specs.Shown.{waitingAt, firstOf, shown, Log, Place, Fit, lookingAt, Looked}
@@ -30,11 +31,6 @@ unopened number line =
       first = 8;
       demand = silent;
     }
-
-zeros : (n j : ℕ) → getD {A = ℕ} (replicate n 0) j 0 ≡ 0
-zeros zero j = refl
-zeros (suc n) zero = refl
-zeros (suc n) (suc j) = zeros n j
 
 take-zeros : (n m : ℕ) → n ≤ m → take {A = ℕ} n (replicate m 0) ≡ replicate n 0
 take-zeros zero m h = refl

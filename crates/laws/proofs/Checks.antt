@@ -1,7 +1,7 @@
 -- Checks made in order: what it says of each of them that none fails, and which numbers they can say. Assumes nothing.
 use mathlib.Core.Path.{_≡_, refl, sym, subst}
 use mathlib.Core.Logic.{_≢_}
-use mathlib.Core.Bool.{Bool, true, false, _||_, true≢false}
+use mathlib.Core.Bool.{Bool, true, false}
 use mathlib.Core.List.{List, [], _∷_}
 use mathlib.Core.Option.{none, some}
 use Prim.Native.Nat.{ℕ}
@@ -23,10 +23,6 @@ some-not-none a e = let z : _≡_ {A = ℕ} 0 1 = cc in omega arith
 
 pub some-once : {A : Type 0} (a b : A) → some a ≡ some b → a ≡ b
 some-once a b e = cc
-
-pub neither : (a b : Bool) → (a || b) ≡ false → (a ≡ false) × (b ≡ false)
-neither true b e = absurd (true≢false e)
-neither false b e = (refl, e)
 
 -- none of the checks fails
 abbrev pub AllPass : List Check → Type 0

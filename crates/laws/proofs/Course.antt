@@ -4,7 +4,7 @@ use mathlib.Core.Path.{_≡_, refl, sym, ap, _∙_, subst}
 use mathlib.Core.Logic.{_≢_}
 use mathlib.Core.Bool.{true, false}
 use mathlib.Core.List.{List, [], _∷_, _++_, map, append-assoc}
-use Prim.Native.Nat.{ℕ, zero, suc, _+_, _-_, _*_, _≤_, _<_}
+use Prim.Native.Nat.{ℕ, suc, _+_, _-_, _*_, _≤_, _<_}
 use native.Mathlib.Decide.{ℕ-discrete}
 use native.Mathlib.Nat.{not-suc-le-zero, zero-add}
 use native.Mathlib.Numerals.{add-one}
@@ -17,6 +17,7 @@ use Rattle.rules.specs.ArrivalLog.{Entry}
 use Rattle.rules.specs.Due.{due}
 use Rattle.rules.specs.Moves.{Booth, nobody, noDemand, settle, mayWork, firstTask, work, worker, turn, settleAll}
 use Rattle.rules.specs.Session.{ownEntries, freshBooth, openBooths, settledAt, count, writeRows}
+use Rattle.rules.proofs.Held.{zeros}
 use Rattle.laws.specs.Statements.{Sound, boothAt}
 use Rattle.laws.proofs.Entries.{Sorted, own-sorted}
 use Rattle.laws.proofs.DueLaws.{due-zero, due-at-most}
@@ -26,7 +27,7 @@ use Rattle.laws.proofs.SettleAgain.{in-order-later, settled-in-order, s
 use Rattle.laws.proofs.FirstWorker.{first-works, none-works}
 use Rattle.laws.proofs.Run.{AsRead, getD-map, length-open, open-at, opened, length-booths, wall-start, wall-step}
 use Rattle.laws.proofs.WallRecord.{length-wall}
-use Rattle.laws.proofs.Counting.{count-nil, count-last-same, count-last-other}
+use Rattle.rules.proofs.Counting.{count-nil, count-last-same, count-last-other}
 use Rattle.laws.proofs.LentRows.{ShortRows}
 use Rattle.laws.proofs.RowSlices.{rows-open, row-moved, short-set, short-at}
 
@@ -368,11 +369,6 @@ module _ (ls : List Line) (es : List Entry) (as-read : AsRead ls es) where
     unfolding openBooths freshBooth
     short-open k [] = tt
     short-open k (m ∷ ms) = (omega arith, short-open (suc k) ms)
-
-    zeros : (n j : ℕ) → getD {A = ℕ} (replicate n 0) j 0 ≡ 0
-    zeros zero j = refl
-    zeros (suc n) zero = refl
-    zeros (suc n) (suc j) = zeros n j
 
     pub begins : Course ls es H wall₀ own₀ 0 0 (openBooths 0 ls es) (replicate 8 0) (replicate 8 0) 0 wall₀ own₀
     begins =

@@ -6,7 +6,6 @@ pub mod Turns
 pub mod Run
 pub mod NoLag
 pub mod Clocks
-pub mod Counting
 pub mod Tasks
 pub mod Opening
 pub mod Rows

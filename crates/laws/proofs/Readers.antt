@@ -1,10 +1,10 @@
 -- What the readers guarantee of what they take. Assumes nothing.
-use mathlib.Core.Path.{_≡_, refl, sym, ap, subst}
+use mathlib.Core.Path.{_≡_, refl, sym, subst}
 use mathlib.Core.Logic.{_≢_}
-use mathlib.Core.Bool.{Bool, true, false, _&&_, false≢true}
+use mathlib.Core.Bool.{Bool, true, false}
 use mathlib.Core.List.{List, [], _∷_, _++_}
 use mathlib.Core.Option.{Option, none, some}
-use Prim.Native.Nat.{ℕ, zero, suc, _+_, _-_, _*_, _/_, _%_, _≤_, _<_}
+use Prim.Native.Nat.{ℕ, zero, suc, _+_, _-_, _/_, _≤_, _<_}
 use native.Mathlib.Nat.{not-suc-le-zero, le-of-suc-le-suc}
 use native.Mathlib.Omega.{arith}
 use lib.Dec.{leb, ltb, eqb}
@@ -12,11 +12,13 @@ use lib.ListN.{length, getD}
 use borrow.Author.Tests.{ltb-false, leb-true, leb-false, eqb-false, not-false}
 use Rattle.rules.specs.declared.Refusal.{Refusal}
 use Rattle.rules.specs.Refusals.{Taken, taken, refused, refuseIf, firstFault, refusal, not-admitted}
-use Rattle.rules.specs.BoothTable.{Line, booths-allowed, tasks-allowed, longest-period, tableN, headerChecks, jobsAt, recordL, recordEnd, lineAt, lengthAllowed, lineChecks, recordChecks, withLine, readRecords, readLines}
+use Rattle.rules.specs.BoothTable.{Line, booths-allowed, longest-period, tableN, headerChecks, recordL, recordEnd, lineAt, lengthAllowed, lineChecks, recordChecks, withLine, readRecords, readLines}
 use Rattle.rules.specs.ArrivalLog.{Entry, Log, longest-session, entries-allowed, entry-bytes, logH, headChecks, horizonChecks, entryAt, longestJobs, entryChecks, withEntry, readEntries, withHorizon, readLog}
+use Rattle.rules.proofs.Checks.{neither}
+use Rattle.rules.proofs.Records.{length-jobs, allowed-range}
 use Rattle.laws.specs.Statements.{GoodLine, GoodEntry}
 use Rattle.laws.proofs.Entries.{From, Sorted}
-use Rattle.laws.proofs.Checks.{taken-or-refused, taken-once, refused-once, neither, no-fault, not-said}
+use Rattle.laws.proofs.Checks.{taken-or-refused, taken-once, refused-once, no-fault, not-said}
 
 -- each of a list
 abbrev pub All : {A : Type 0} → (A → Type 0) → List A → Type 0
@@ -30,30 +32,14 @@ all-at P (x ∷ xs) d a (suc i) h = all-at P xs d (a .1) i (le-of-suc-le-suc h)
 
 -- ---- one record of the table
 
-length-jobs : (n : ℕ) (bs : List ℕ) (at : ℕ) → length (jobsAt n bs at) ≡ n
-unfolding jobsAt
-length-jobs zero bs at = refl
-length-jobs (suc n) bs at = ap suc (length-jobs n bs (at + 2))
-
-both : (a b : Bool) → (a && b) ≡ true → (a ≡ true) × (b ≡ true)
-both true b e = (refl, e)
-both false b e = absurd (false≢true e)
-
 positive : (n : ℕ) → n ≢ 0 → 0 < n
 positive n h = omega arith
-
-allowed : (L : ℕ) → lengthAllowed L ≡ true → (6 ≤ L) × (L ≤ 20)
-unfolding lengthAllowed
-allowed L h =
-    let (a, b) = both (leb 6 L && leb L (4 + 2 * tasks-allowed)) (eqb (L % 2) 0) h in
-    let (c, d) = both (leb 6 L) (leb L (4 + 2 * tasks-allowed)) a in
-    (leb-true 6 L c, leb-true L 20 d)
 
 good-line : (bs : List ℕ) (at : ℕ) → firstFault (recordChecks bs at) ≡ none → GoodLine (lineAt bs at)
 unfolding recordChecks refuseIf lineAt recordL lineChecks
 good-line bs at h =
     let p = no-fault (recordChecks bs at) h in
-    let L = allowed (recordL bs at) (not-false (lengthAllowed (recordL bs at)) (p .0)) in
+    let L = allowed-range (recordL bs at) (not-false (lengthAllowed (recordL bs at)) (p .0)) in
     let T = (lineAt bs at) .promise .period in
     let B = (lineAt bs at) .promise .allowance in
     let (no-T, long-T) = neither (eqb T 0) (ltb longest-period T) (p .1 .1 .0) in

@@ -14,7 +14,7 @@ use Rattle.rules.specs.Session.{count, workedFrom, settledAt}
 use Rattle.laws.specs.Statements.{total}
 use Rattle.laws.proofs.Turns.{worker-range}
 use Rattle.laws.proofs.Run.{wallAt, wall-start, wall-step, length-booths}
-use Rattle.laws.proofs.Counting.{count-same, count-other, count-nil}
+use Rattle.rules.proofs.Counting.{count-same, count-other, count-nil}
 
 -- every byte is one of n booths' numbers or 255
 abbrev pub InRange : ℕ → List ℕ → Type 0

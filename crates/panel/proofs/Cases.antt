@@ -1,14 +1,13 @@
 -- The panel case by case, and the count that its loop keeps. Assumes nothing.
 use mathlib.Core.Path.{_≡_, refl, sym, ap, _∙_, subst}
-use mathlib.Core.Bool.{Bool, true, false}
-use mathlib.Core.List.{List, [], _∷_, _++_}
+use mathlib.Core.List.{List, [], _∷_}
 use mathlib.Core.Option.{Option, none, some}
 use Prim.Native.Nat.{ℕ, _+_, _^_, _≤_, _<_}
 use native.Mathlib.Nat.{le-trans, lt-of-le-of-lt, lt-irrefl}
 use native.Mathlib.Numerals.{add-one}
 use native.Mathlib.Omega.{arith}
 use borrow.Author.Tests.{eq-eqb, ne-eqb, lt-ltb, le-ltb, le-leb, lt-leb, ltb-false}
-use lib.Dec.{eqb, lit<}
+use lib.Dec.{lit<}
 use lib.IntN.{pos}
 use lib.Pow.{pow-pos}
 use lib.Ieee.{Float, binary64, mul, ofInt}
@@ -25,19 +24,11 @@ use Rattle.rules.specs.Due.{due}
 use Rattle.rules.specs.Session.{count}
 use Rattle.rules.specs.Panel.{share, no-share, none-yet, below, at-ceiling, over, readingOf, panelRow, noPanel, panelChecks, panel}
 use Rattle.rules.proofs.Checks.{passed}
+use Rattle.rules.proofs.Counting.{count-append, count-most}
 use Rattle.panel.specs.Exact.{ExactAtPowers, ExactPanel}
 use Rattle.panel.proofs.Exact.{share-exact}
 
 -- ---- how often a number stands in one byte more
-
-count-append : (k : ℕ) (xs ys : List ℕ) → count k (xs ++ ys) ≡ count k xs + count k ys
-unfolding count
-count-append k [] ys = omega arith
-count-append k (x ∷ xs) ys = go (eqb x k) refl (count-append k xs ys)
-  where
-    go : (b : Bool) → eqb x k ≡ b → count k (xs ++ ys) ≡ count k xs + count k ys → count k (x ∷ (xs ++ ys)) ≡ count k (x ∷ xs) + count k ys
-    go true q ih = rw (q, count) (omega (arith, ih))
-    go false q ih = rw (q, count) ih
 
 pub count-none : (k : ℕ) (wall : List ℕ) → count k (take 0 wall) ≡ 0
 unfolding count
@@ -59,18 +50,9 @@ module _ (k : ℕ) (wall : List ℕ) (at : ℕ) (inside : at < length wall) wher
       let none : count k (getD wall at 0 ∷ []) ≡ 0 = rw (ne-eqb (getD wall at 0) k e, count) in
       omega (arith, byte-more)
 
-count-le : (k : ℕ) (xs : List ℕ) → count k xs ≤ length xs
-unfolding count
-count-le k [] = omega arith
-count-le k (x ∷ xs) = go (eqb x k) refl (count-le k xs)
-  where
-    go : (b : Bool) → eqb x k ≡ b → count k xs ≤ length xs → count k (x ∷ xs) ≤ length (x ∷ xs)
-    go true q ih = rw (q, count) (omega arith)
-    go false q ih = rw (q, count) (omega arith)
-
 -- no more ticks are worked than pass
 pub worked-le : (k t : ℕ) (wall : List ℕ) → count k (take t wall) ≤ t
-worked-le k t wall = omega (arith, count-le k (take t wall), length-take t wall)
+worked-le k t wall = omega (arith, count-most k (take t wall), length-take t wall)
 
 -- ---- the reading
 

@@ -1,6 +1,5 @@
 // The panel: a booth's two shares and their reading; and a booth's own row handed back.
 ghost use mathlib.Core.Path.{_≡_};
-ghost use mathlib.Core.Option.{some};
 ghost use Prim.Native.Nat.{_≤_, _<_};
 ghost use lib.ListN.{length, take};
 ghost use Rattle.rules.specs.declared.Refused.the-variants.{TheCall};
@@ -46,27 +45,21 @@ fn accepted() -> Verdict
     }
 }
 
-fn fault(number: u32) -> Fault
-    ensures { λ r. ⌜ r ≡ faultOf (some (refusal number 0)) ⌝ }
-{
-    Fault::Found(Refusal { number, place: 0 })
-}
-
 // Booth, H, count, then the end, each tested before it is multiplied, so that no product is too large.
 fn row_fault(own: &[u8], h: usize, booth: usize, count: usize) -> Fault
     ensures { λ r. ⌜ r ≡ faultOf (firstFault (row.rowChecks (now (own .entry)) h booth count)) ⌝ }
 {
     if 8 <= booth {
-        return fault(11);
+        return rules::fault_at(11, 0);
     }
     if 1000000 < h {
-        return fault(11);
+        return rules::fault_at(11, 0);
     }
     if h < count {
-        return fault(11);
+        return rules::fault_at(11, 0);
     }
     if own.len() < booth * h + count {
-        return fault(11);
+        return rules::fault_at(11, 0);
     }
     Fault::Nothing
 }

@@ -14,7 +14,7 @@ use Rattle.laws.specs.Statements.{no-entry}
 use Rattle.laws.proofs.Entries.{Sorted}
 use Rattle.arrivals.proofs.Entries.{Accepted, FitEntry}
 use Rattle.table.specs.Fit.{FitTable, FitLine}
-use Rattle.table.proofs.Test.{held-at, held-length}
+use Rattle.table.proofs.Test.{held-at}
 use Rattle.booth.specs.Shown as shows
 use Rattle.booth.specs.Shown.{entriesFrom, Place}
 use Rattle.session.specs.Running.{entriesOf}

@@ -2,15 +2,15 @@
 use mathlib.Core.Path.{_≡_, refl, sym, ap, _∙_, subst}
 use mathlib.Core.Logic.{_⊎_, inl, inr, _≢_}
 use mathlib.Core.Bool.{Bool, true, false, not, _&&_, true≢false, false≢true}
-use mathlib.Core.List.{List, [], _∷_, _++_, map}
+use mathlib.Core.List.{List, [], _++_, map}
 use Prim.Native.Nat.{ℕ, zero, suc, _+_, _-_, _*_, _/_, _%_, _≤_, _<_}
 use native.Mathlib.Decide.{ℕ-discrete, decLe}
-use native.Mathlib.Nat.{not-suc-le-zero, le-of-suc-le-suc, zero-add, mul-le-mul-right}
+use native.Mathlib.Nat.{not-suc-le-zero, add-zero, zero-add, mul-le-mul-right}
 use native.Mathlib.Numerals.{add-one}
 use native.Mathlib.Omega.{arith}
 use lib.Dec.{leb, ltb, eqb}
 use lib.ListN.{length-append, length, getD, take, drop, set, replicate, length-set, length-take, length-drop, length-map, take-append-drop}
-use lib.Seq.{getD-set-same, getD-set-other, length-take-le, ext-getD, getD-take, getD-append-add, take-suc}
+use lib.Seq.{getD-set-same, getD-set-other, length-take-le, ext-getD, getD-take, getD-append-add}
 use borrow.Author.Tests.{eqb-true, eqb-false}
 use Rattle.rules.specs.BoothTable.{Line}
 use Rattle.rules.specs.ArrivalLog.{Entry, Log, entryAt}
@@ -19,13 +19,14 @@ use Rattle.rules.specs.Moves.{Booth, nobody, noDemand, settle, mayWork, firstTa
 use Rattle.rules.specs.declared.Line.{Line as HeldLine}
 use Rattle.rules.specs.Session.{ownEntries, freshBooth, settledAt, writeRows, count, workedFrom}
 use Rattle.rules.specs.Values.{padded, lineHeld, linesHeld, no-held-line}
-use Rattle.rules.proofs.Held.{length-padded, getD-padded, set-padded}
+use Rattle.rules.proofs.Counting.{count-most}
+use Rattle.rules.proofs.Held.{zeros, map-take, length-padded, getD-padded, set-padded}
 use Rattle.laws.proofs.WallRecord.{worked-at, length-worked, length-wall}
 use Rattle.laws.proofs.DueLaws.{due-at-most}
 use Rattle.table.specs.Fit.{Sounds}
 use Rattle.laws.specs.Statements.{Sound}
 use Rattle.laws.proofs.QuickSettle.{InOrder, Late}
-use Rattle.laws.proofs.Run.{AsRead}
+use Rattle.laws.proofs.Run.{AsRead, getD-map}
 use Rattle.laws.proofs.SettleAgain.{in-order-later}
 use Rattle.laws.proofs.Asleep.{asleep-silent, asleep-busy, opens}
 use Rattle.laws.proofs.RowSlices.{slice-of}
@@ -40,7 +41,7 @@ use Rattle.booth.specs.Shown.{AfterSettle, AfterPlay, entriesFrom, waitingAt, f
 use Rattle.booth.proofs.Rows.{agree-later}
 use Rattle.booth.proofs.Demand.{First, first-here, first-taken, eight-none, none-taken, demand-or-none}
 use Rattle.booth.proofs.Waiting.{whole-entry, waiting-sorted, waiting-end, waiting-own}
-use Rattle.session.specs.Running.{entriesOf, nowhere, linesOf, Same, Alike, Set, Running, Ending, Ended, OpenedTo}
+use Rattle.session.specs.Running.{entriesOf, nowhere, linesOf, Same, Alike, Set, Running, NextAwake, Ending, Ended, OpenedTo}
 
 -- ---- what a held booth shows
 
@@ -279,11 +280,6 @@ module _ (ls : List Line) (H : ℕ) (bs wall₀ own₀ : List ℕ) (as-read : As
 
 -- ---- what is answered
 
-map-at : {A : Type 0} (f : A → ℕ) (xs : List A) (j : ℕ) (d : A) → j < length xs → getD (map f xs) j 0 ≡ f (getD xs j d)
-map-at f [] j d h = absurd (not-suc-le-zero h)
-map-at f (x ∷ xs) zero d h = refl
-map-at f (x ∷ xs) (suc j) d h = map-at f xs j d (le-of-suc-le-suc h)
-
 pub clocks-are : (bs : List ℕ) (n : ℕ) (hs : List HeldBooth) (booths : List Booth) → Alike bs n hs booths → n ≤ 8 → length booths ≡ n
     → map (λ h. h .clock .0) (take n hs) ≡ map (λ b. b .u) booths
 clocks-are bs n hs booths a few size =
@@ -292,21 +288,16 @@ clocks-are bs n hs booths a few size =
     (length-map (take n hs) (λ h. h .clock .0) ∙ short ∙ sym (length-map booths (λ b. b .u) ∙ size))
     (λ j l.
     let there : j < n = omega (arith, length-map (take n hs) (λ h. h .clock .0), short) in
-    map-at (λ h. h .clock .0) (take n hs) j nowhere (omega arith)
+    getD-map (λ h. h .clock .0) (take n hs) j nowhere 0 (omega arith)
     ∙ ap (λ h. h .clock .0) (getD-take n hs j nowhere there)
     ∙ sym ((a .same j there) .clock)
-    ∙ sym (map-at (λ b. b .u) booths j nobooth (omega (arith, size))))
+    ∙ sym (getD-map (λ b. b .u) booths j nobooth 0 (omega (arith, size))))
 
 padded-past : (xs : List ℕ) (n j : ℕ) → length xs ≤ j → getD (padded n 0 xs) j 0 ≡ 0
 unfolding padded
 padded-past xs n j h =
     let e : j ≡ length xs + (j - length xs) = omega arith in
     ap (λ k. getD (xs ++ replicate (n - length xs) 0) k 0) e ∙ getD-append-add xs (replicate (n - length xs) 0) (j - length xs) 0 ∙ zeros (n - length xs) (j - length xs)
-  where
-    zeros : (m k : ℕ) → getD {A = ℕ} (replicate m 0) k 0 ≡ 0
-    zeros zero k = refl
-    zeros (suc m) zero = refl
-    zeros (suc m) (suc k) = zeros m k
 
 pub worked-are : (worked wall : List ℕ) (n : ℕ) → n ≤ 8 → length worked ≡ 8 → ((j : ℕ) → j < n → getD worked j 0 ≡ count j wall) → ((j : ℕ) → n ≤ j → getD worked j 0 ≡ 0)
     → worked ≡ padded 8 0 (workedFrom 0 n wall)
@@ -323,15 +314,6 @@ worked-are worked wall n few eight counted others =
         ∙ sym (getD-padded 8 0 (workedFrom 0 n wall) j 0 (omega (arith, length-worked 0 n wall)))
 
 -- ---- what the loop over wall ticks keeps
-
-count-most : (k : ℕ) (xs : List ℕ) → count k xs ≤ length xs
-unfolding count
-count-most k [] = omega arith
-count-most k (x ∷ xs) = go (eqb x k) refl (count-most k xs)
-  where
-    go : (c : Bool) → eqb x k ≡ c → count k xs ≤ length xs → count k (x ∷ xs) ≤ suc (length xs)
-    go true q ih = rw (q, count) (omega arith)
-    go false q ih = rw (q, count) (omega arith)
 
 pub record Going (n H : ℕ) (start : List HeldBooth) (bs wall₀ own₀ : List ℕ) (t i : ℕ) (hs : List HeldBooth) (wakes worked : List ℕ) (idle : ℕ) (wall own : List ℕ) : Type 0 where
   pub early : t ≤ H
@@ -514,6 +496,24 @@ module _ (n H : ℕ) (start : List HeldBooth) (bs wall₀ own₀ : List ℕ) (t 
           idle-small = omega (arith, g .idle-small);
         })
 
+-- ---- the booths that sleep are passed over
+
+sleeps-on : (d n H : ℕ) (start : List HeldBooth) (bs wall₀ own₀ : List ℕ) (t i : ℕ) (hs : List HeldBooth) (wakes worked : List ℕ) (idle : ℕ) (wall own : List ℕ)
+    → Going n H start bs wall₀ own₀ t i hs wakes worked idle wall own → i + d ≤ n → ((j : ℕ) → j < i + d → i ≤ j → t < getD wakes j 0) → Going n H start bs wall₀ own₀ t (i + d) hs wakes worked idle wall own
+sleeps-on zero n H start bs wall₀ own₀ t i hs wakes worked idle wall own g within asleep = subst (λ k. Going n H start bs wall₀ own₀ t k hs wakes worked idle wall own) (sym (add-zero i)) g
+sleeps-on (suc d) n H start bs wall₀ own₀ t i hs wakes worked idle wall own g within asleep =
+    let e : i + 1 + d ≡ i + suc d = omega arith in
+    subst (λ k. Going n H start bs wall₀ own₀ t k hs wakes worked idle wall own) e
+    (sleeps-on d n H start bs wall₀ own₀ t (i + 1) hs wakes worked idle wall own (going-sleeps n H start bs wall₀ own₀ t i hs wakes worked idle wall own g (λ q. omega arith) (asleep i (omega arith) (omega arith)))
+    (omega arith) (λ j l m. asleep j (omega arith) (omega arith)))
+
+pub going-on : (n H : ℕ) (start : List HeldBooth) (bs wall₀ own₀ : List ℕ) (t i : ℕ) (hs : List HeldBooth) (wakes worked : List ℕ) (idle : ℕ) (wall own : List ℕ)
+    → Going n H start bs wall₀ own₀ t i hs wakes worked idle wall own → (k : ℕ) → NextAwake wakes n i t k → Going n H start bs wall₀ own₀ t k hs wakes worked idle wall own
+going-on n H start bs wall₀ own₀ t i hs wakes worked idle wall own g k a =
+    let e : i + (k - i) ≡ k = omega (arith, a .later) in
+    subst (λ m. Going n H start bs wall₀ own₀ t m hs wakes worked idle wall own) e
+    (sleeps-on (k - i) n H start bs wall₀ own₀ t i hs wakes worked idle wall own g (omega (arith, a .within)) (λ j l m. a .asleep j (omega (arith, a .later)) m))
+
 -- the task that a settled booth answers with is its first with demand
 pub chosen-first : (bs : List ℕ) (t : ℕ) (h : HeldBooth) (part : List ℕ) (k : ℕ) → Steady h → settledAnswer t (shown bs h part) ≡ Task k → (k < 8) × (k ≡ h .first)
 unfolding shown settledAnswer mayWork
@@ -631,11 +631,4 @@ one-clock hs i clocks is few eight =
     ap (λ xs. set xs i ((getD hs i nowhere) .clock .0)) is
     ∙ ap (λ k. set (padded 8 0 noted) k ((getD hs i nowhere) .clock .0)) (sym size)
     ∙ set-padded 8 0 noted ((getD hs i nowhere) .clock .0) (omega arith)
-    ∙ ap (padded 8 0) (sym (more hs i (omega (arith, eight))))
-  where
-    map-more : (xs : List HeldBooth) (x : HeldBooth) → map (λ h. h .clock .0) (xs ++ (x ∷ [])) ≡ map (λ h. h .clock .0) xs ++ (x .clock .0 ∷ [])
-    map-more [] x = refl
-    map-more (y ∷ xs) x = ap (λ r. y .clock .0 ∷ r) (map-more xs x)
-
-    more : (hs : List HeldBooth) (i : ℕ) → i < length hs → map (λ h. h .clock .0) (take (i + 1) hs) ≡ map (λ h. h .clock .0) (take i hs) ++ ((getD hs i nowhere) .clock .0 ∷ [])
-    more hs i l = ap (λ k. map (λ h. h .clock .0) (take k hs)) (add-one i) ∙ ap (map (λ h. h .clock .0)) (take-suc hs i nowhere l) ∙ map-more (take i hs) (getD hs i nowhere)
+    ∙ ap (padded 8 0) (sym (map-take (λ h. h .clock .0) hs i nowhere (omega (arith, eight))))

@@ -1,22 +1,22 @@
 -- From an accepted table and log to the answer: how the run begins, and what is left when it has ended. Assumes nothing.
 use mathlib.Core.Path.{_≡_, refl, sym, ap, _∙_, subst}
-use mathlib.Core.List.{List, [], _∷_, _++_, map}
-use Prim.Native.Nat.{ℕ, zero, suc, _+_, _-_, _*_, _≤_, _<_}
+use mathlib.Core.List.{List, [], _++_, map}
+use Prim.Native.Nat.{ℕ, _+_, _-_, _*_, _≤_, _<_}
 use native.Mathlib.Nat.{zero-add}
 use native.Mathlib.Omega.{arith}
-use lib.ListN.{length, getD, take, set, replicate, length-map, length-replicate}
+use lib.ListN.{length, getD, take, set, length-map, length-replicate}
 use lib.Seq.{ext-getD, getD-take, length-take-le}
 use Rattle.rules.specs.declared.Table.{Table}
 use Rattle.rules.specs.declared.Refused.the-variants.{Nothing}
 use Rattle.rules.specs.Bytes.{written}
 use Rattle.rules.specs.Refusals.{refusal, accepted}
-use Rattle.rules.specs.BoothTable.{Line, no-line}
+use Rattle.rules.specs.BoothTable.{no-line}
 use Rattle.rules.specs.ArrivalLog.{Entry, Log}
 use Rattle.rules.specs.Moves.{Booth, nobody}
 use Rattle.rules.specs.Session.{ownEntries, freshBooth, openBooths, settledAt, count, workedFrom, writeRows, played}
 use Rattle.rules.specs.Values.{padded, lineHeld, linesHeld, no-held-line}
-use Rattle.table.proofs.Test.{held-at, held-length}
-use Rattle.laws.proofs.Run.{AsRead, open-at, length-booths}
+use Rattle.table.proofs.Test.{lines-in, line-in}
+use Rattle.laws.proofs.Run.{AsRead, getD-map, open-at, length-booths}
 use Rattle.laws.proofs.Course.{nobooth, Course, Closing, begins, closes, closed}
 use Rattle.booth.specs.declared.Booth.{Booth as HeldBooth}
 use Rattle.booth.specs.Shown.{shown}
@@ -25,7 +25,7 @@ use Rattle.rules.specs.Refusals.{taken}
 use Rattle.rules.specs.ArrivalLog.{readLog}
 use Rattle.rules.specs.Admission.{readTable}
 use Rattle.rules.specs.Session.{Outcome, nothingDone, session}
-use Rattle.rules.proofs.Held.{lines-held}
+use Rattle.rules.proofs.Held.{zeros, lines-held}
 use Rattle.table.specs.declared.TableAnswer.{TableAnswer}
 use Rattle.table.specs.Fit.{FitTable}
 use Rattle.table.proofs.Numbers.{TableTaken}
@@ -49,11 +49,6 @@ made n clocks worked idle = record { verdict = record { refused = Nothing; refus
 made-same : {n m : ℕ} {c d w v : List ℕ} {i j : ℕ} → n ≡ m → c ≡ d → w ≡ v → i ≡ j → made n c w i ≡ made m d v j
 made-same {n} {m} {c} {d} {w} {v} {i} {j} p q r s = ap (λ x. made x c w i) p ∙ ap (λ x. made m x w i) q ∙ ap (λ x. made m d x i) r ∙ ap (λ x. made m d v x) s
 
-map-held : (f : HeldBooth → Line) (xs : List HeldBooth) (j : ℕ) (d : Line) → j < length xs → getD (map f xs) j d ≡ f (getD xs j nowhere)
-map-held f [] j d h = absurd (native.Mathlib.Nat.not-suc-le-zero h)
-map-held f (x ∷ xs) zero d h = refl
-map-held f (x ∷ xs) (suc j) d h = map-held f xs j d (native.Mathlib.Nat.le-of-suc-le-suc h)
-
 module _ (table : Table) (bs wall own : List ℕ) (H : ℕ) (p : Playable table bs wall own H) (hs : List HeldBooth) (o : OpenedTo (table .booths) (table .lines) bs hs) where
   n : ℕ
   n = table .booths
@@ -61,33 +56,25 @@ module _ (table : Table) (bs wall own : List ℕ) (H : ℕ) (p : Playable table 
   few : table .booths ≤ 8
   few = p .opening .fit .lines .few
 
-  lines-short : length (linesHeld table) ≡ table .booths
-  unfolding linesHeld
-  lines-short = held-length (table .lines) (table .booths) (omega (arith, p .opening .fit .lines .eight, p .opening .fit .lines .few))
-
-  line-at : (j : ℕ) → j < table .booths → getD (linesHeld table) j no-line ≡ lineHeld (getD (table .lines) j no-held-line)
-  unfolding linesHeld lineHeld no-line
-  line-at j h = held-at (table .lines) (table .booths) j h
-
   -- the lines that the booths hold are the table's
   pub lines-are : linesOf (table .booths) hs ≡ linesHeld table
   unfolding linesOf
   lines-are =
       let size : length (take (table .booths) hs) ≡ table .booths = length-take-le (table .booths) hs (omega (arith, o .size, few)) in
       let long : length (map (λ h. lineHeld (h .line)) (take (table .booths) hs)) ≡ table .booths = length-map (take (table .booths) hs) (λ h. lineHeld (h .line)) ∙ size in
-      ext-getD no-line (map (λ h. lineHeld (h .line)) (take (table .booths) hs)) (linesHeld table) (long ∙ sym lines-short)
+      ext-getD no-line (map (λ h. lineHeld (h .line)) (take (table .booths) hs)) (linesHeld table) (long ∙ sym (lines-in table (p .opening .fit)))
       (λ j l.
       let there : j < table .booths = omega arith in
-      map-held (λ h. lineHeld (h .line)) (take (table .booths) hs) j no-line (omega arith)
+      getD-map (λ h. lineHeld (h .line)) (take (table .booths) hs) j nowhere no-line (omega arith)
       ∙ ap (λ h. lineHeld (h .line)) (getD-take (table .booths) hs j nowhere there)
       ∙ ap lineHeld (o .line j there)
-      ∙ sym (line-at j there))
+      ∙ sym (line-in table j there))
 
   pub as-read : AsRead (linesOf (table .booths) hs) (entriesOf bs)
   as-read = subst (λ ls. AsRead ls (entriesOf bs)) (sym lines-are) (p .as-read)
 
   counted : length (linesOf (table .booths) hs) ≡ table .booths
-  counted = ap length lines-are ∙ lines-short
+  counted = ap length lines-are ∙ lines-in table (p .opening .fit)
 
   pub room : length (linesOf (table .booths) hs) * H ≤ length own
   room = omega (arith, ap (λ m. m * H) counted, p .own-room)
@@ -112,18 +99,13 @@ module _ (table : Table) (bs wall own : List ℕ) (H : ℕ) (p : Playable table 
         };
       }
     where
-      zeros : (m k : ℕ) → getD {A = ℕ} (replicate m 0) k 0 ≡ 0
-      zeros zero k = refl
-      zeros (suc m) zero = refl
-      zeros (suc m) (suc k) = zeros m k
-
       opens : (j : ℕ) → j < table .booths
           → getD (openBooths 0 (linesOf (table .booths) hs) (entriesOf bs)) j nobooth ≡ freshBooth (lineHeld (getD (table .lines) j no-held-line)) (ownEntries j (entriesOf bs))
       opens j l =
           open-at 0 (linesOf (table .booths) hs) (entriesOf bs) j (omega (arith, counted))
           ∙ ap (λ k. freshBooth (getD (linesOf (table .booths) hs) j no-line) (ownEntries k (entriesOf bs))) (zero-add j)
           ∙ ap (λ ls. freshBooth (getD ls j no-line) (ownEntries j (entriesOf bs))) lines-are
-          ∙ ap (λ x. freshBooth x (ownEntries j (entriesOf bs))) (line-at j l)
+          ∙ ap (λ x. freshBooth x (ownEntries j (entriesOf bs))) (line-in table j l)
 
       same : (j : ℕ) → j < table .booths → Same bs (getD hs j nowhere) (getD (openBooths 0 (linesOf (table .booths) hs) (entriesOf bs)) j nobooth)
       same j l = (shown-same bs (getD hs j nowhere) _ [] (o .fresh j l [] ∙ sym (opens j l))) .0
@@ -173,14 +155,14 @@ module _ (table : Table) (bs wall own : List ℕ) (H : ℕ) (p : Playable table 
           worked-are (s .worked) ((settledAt H (linesOf (table .booths) hs) (entriesOf bs)) .wall) (table .booths) few (running .worked-eight)
           (λ j l. running .course .worked-is j (omega (arith, counted))) (λ j l. running .others j (omega (arith, counted)))
           ∙ ap (λ w. padded 8 0 (workedFrom 0 (table .booths) w)) wall-same
-          ∙ ap (λ m. padded 8 0 (workedFrom 0 m ((settledAt H (linesHeld table) (entriesOf bs)) .wall))) (sym lines-short)
+          ∙ ap (λ m. padded 8 0 (workedFrom 0 m ((settledAt H (linesHeld table) (entriesOf bs)) .wall))) (sym (lines-in table (p .opening .fit)))
 
       idle-is : s .idle ≡ count nobody ((settledAt H (linesHeld table) (entriesOf bs)) .wall)
       idle-is = running .course .idle-is ∙ ap (count nobody) wall-same
 
       booths-is : table .booths ≡ length (map (λ (b : Booth). b .u) ((settledAt H (linesHeld table) (entriesOf bs)) .booths))
       booths-is =
-          sym (length-map ((settledAt H (linesHeld table) (entriesOf bs)) .booths) (λ b. b .u) ∙ length-booths (linesHeld table) (entriesOf bs) H ∙ lines-short)
+          sym (length-map ((settledAt H (linesHeld table) (entriesOf bs)) .booths) (λ b. b .u) ∙ length-booths (linesHeld table) (entriesOf bs) H ∙ lines-in table (p .opening .fit))
 
       pub answer-is : made (table .booths) clocks (s .worked) (s .idle) ≡ answered (played (linesHeld table) (logOf H bs) wall own)
       unfolding answered played logOf accepted refusal
@@ -208,10 +190,6 @@ module _ (tableBytes logBytes wall own : List ℕ) (a : TableAnswer) (k : TableT
   pub table-read : readTable tableBytes ≡ taken (linesHeld (a .table))
   table-read = k .read ∙ ap taken (sym held)
 
-  pub lines-count : length (linesHeld (a .table)) ≡ a .table .booths
-  unfolding linesHeld
-  lines-count = held-length (a .table .lines) (a .table .booths) (omega (arith, fit .lines .eight, fit .lines .few))
-
   known : Accepted (linesHeld (a .table)) logBytes log
   known = accepted-log (linesHeld (a .table)) logBytes log log-read
 
@@ -220,7 +198,7 @@ module _ (tableBytes logBytes wall own : List ℕ) (a : TableAnswer) (k : TableT
     wall-fits = omega arith
 
     own-fits : length (linesHeld (a .table)) * log .horizon ≤ length own
-    own-fits = subst (λ m. length (linesHeld (a .table)) * m ≤ length own) ticks (omega (arith, ap (λ m. m * H) lines-count))
+    own-fits = subst (λ m. length (linesHeld (a .table)) * m ≤ length own) ticks (omega (arith, ap (λ m. m * H) (lines-in (a .table) fit)))
 
     whole : Session
     whole =

@@ -95,6 +95,13 @@ pub record Ready (n H : ℕ) (start : List HeldBooth) (bs wall own : List ℕ) :
   pub wall-room : H ≤ length wall
   pub running : Running (linesOf n start) H bs wall own 0 0 start (replicate 8 0) (replicate 8 0) 0 wall own
 
+-- the booths from one on sleep at t, up to the first that is awake
+pub record NextAwake (wakes : List ℕ) (n from t r : ℕ) : Type 0 where
+  pub later : from ≤ r
+  pub within : r ≤ n
+  pub asleep : (j : ℕ) → j < r → from ≤ j → t < getD wakes j 0
+  pub awake : r < n → getD wakes r 0 ≤ t
+
 -- all H wall ticks are played
 pub record Ran (n H : ℕ) (start : List HeldBooth) (bs wall₀ own₀ : List ℕ) (s : Stage) (wall own : List ℕ) : Type 0 where
   pub asked : ℕ

@@ -7,7 +7,7 @@ ghost use Rattle.rules.specs.Refusals.{refusal, refusedAs};
 ghost use Rattle.rules.specs.Session as page;
 ghost use Rattle.rules.specs.Values.{linesHeld};
 ghost use Rattle.session.specs.Answer as said;
-ghost use Rattle.session.specs.Running.{logOf, Opening, Opened, Ready, Ran, Ended, Closed, Clocks, Playable};
+ghost use Rattle.session.specs.Running.{logOf, Opening, Opened, Ready, NextAwake, Ran, Ended, Closed, Clocks, Playable};
 use booth::Booth;
 use booth::Chosen;
 use rules::Refusal;
@@ -32,6 +32,18 @@ pub struct Stage {
     pub idle: u32,
 }
 
+impl Stage {
+    fn after(booths: [Booth; 8], worked: [u32; 8], idle: u32) -> Self
+        ensures { λ r. ⌜ r ≡ record { booths = booths; worked = worked; idle = idle } ⌝ }
+    {
+        Stage {
+            booths,
+            worked,
+            idle,
+        }
+    }
+}
+
 // Every booth of the table before wall tick 0.
 fn open_all(table: Table, log: &[u8]) -> [Booth; 8]
     requires { ⌜ Opening table (now log) ⌝ }
@@ -49,6 +61,21 @@ fn open_all(table: Table, log: &[u8]) -> [Booth; 8]
     booths
 }
 
+// The first booth from `from` on that is awake at `t`; n where all of them sleep.
+fn next_awake(wakes: &[usize; 8], n: usize, from: usize, t: usize) -> usize
+    requires { ⌜ (from ≤ n) × (n ≤ 8) ⌝ }
+    ensures { λ r. ⌜ NextAwake (now (wakes .entry)) n from t r ⌝ }
+{
+    let mut i = from;
+    while i < n {
+        if wakes[i] <= t {
+            return i;
+        }
+        i += 1;
+    }
+    i
+}
+
 // Wall tick after wall tick, booth after booth: i booths were asked at t in vain. A booth that cannot work before it wakes is passed over.
 fn run(start: [Booth; 8], n: usize, log: &[u8], wall: &mut [u8], own: &mut [u8], h: usize) -> Stage
     requires { ⌜ Ready n h start (now log) (now wall) (now own) ⌝ }
@@ -61,15 +88,12 @@ fn run(start: [Booth; 8], n: usize, log: &[u8], wall: &mut [u8], own: &mut [u8],
     let mut t = 0;
     let mut i = 0;
     while t < h {
+        i = next_awake(&wakes, n, i, t);
         if i == n {
             wall[t] = booth::NOBODY;
             idle += 1;
             t += 1;
             i = 0;
-            continue;
-        }
-        if t < wakes[i] {
-            i += 1;
             continue;
         }
         let a = i * h;
@@ -90,11 +114,7 @@ fn run(start: [Booth; 8], n: usize, log: &[u8], wall: &mut [u8], own: &mut [u8],
         t += 1;
         i = 0;
     }
-    Stage {
-        booths,
-        worked,
-        idle,
-    }
+    Stage::after(booths, worked, idle)
 }
 
 // After the last wall tick all booths settle at H.

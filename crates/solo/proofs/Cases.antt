@@ -3,7 +3,6 @@ use mathlib.Core.Path.{_≡_, ap}
 use mathlib.Core.List.{List}
 use mathlib.Core.Option.{none, some}
 use Prim.Native.Nat.{ℕ, _≤_, _<_}
-use native.Mathlib.Omega.{arith}
 use borrow.Author.Tests.{le-leb, lt-leb, lt-ltb, le-ltb, leb-false, ltb-false}
 use lib.ListN.{length, getD}
 use Rattle.rules.specs.declared.Refusal.{Refusal}
@@ -19,18 +18,9 @@ use Rattle.rules.specs.Session.{ownEntries}
 use Rattle.rules.specs.SoloPart.{solo, soloChecks, askSolo}
 use Rattle.rules.specs.Values.{lineHeld, linesHeld, no-held-line}
 use Rattle.rules.proofs.Checks.{passed}
-use Rattle.table.specs.Fit.{FitTable}
-use Rattle.table.proofs.Test.{held-at, held-length}
+use Rattle.table.proofs.Test.{line-in}
 
--- ---- the lines of a table as the code holds it
-
-pub lines-in : (t : HeldTable) → FitTable t → length (linesHeld t) ≡ t .booths
-unfolding linesHeld
-lines-in t f = held-length (t .lines) (t .booths) (omega (arith, f .lines .few, f .lines .eight))
-
-pub line-in : (t : HeldTable) (j : ℕ) → j < t .booths → getD (linesHeld t) j no-line ≡ lineHeld (getD (t .lines) j no-held-line)
-unfolding linesHeld lineHeld no-line
-line-in t j h = held-at (t .lines) (t .booths) j h
+-- ---- the promises of a table as the code holds it
 
 pub promise-in : (t : HeldTable) (j : ℕ) → j < t .booths → (getD (linesHeld t) j no-line) .promise ≡ (getD (t .lines) j no-held-line) .promise
 unfolding lineHeld

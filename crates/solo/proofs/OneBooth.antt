@@ -18,7 +18,8 @@ use Rattle.arrivals.proofs.Entries.{Accepted, accepted, demand-small}
 use Rattle.laws.proofs.DueLaws.{due-at-most}
 use Rattle.solo.specs.Alone.{Alone, entriesIn, entryOf, entriesFrom, waiting, ownIn}
 use Rattle.solo.proofs.Waiting.{sound-promise}
-use Rattle.solo.proofs.Cases.{line-in, promise-in}
+use Rattle.table.proofs.Test.{line-in}
+use Rattle.solo.proofs.Cases.{promise-in}
 
 no-entry : Entry
 no-entry = record { tick = 0; booth = 0; task = 0; demand = 0 }

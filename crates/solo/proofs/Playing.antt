@@ -21,7 +21,7 @@ use Rattle.rules.specs.Moves.{nobody}
 use Rattle.rules.specs.Session.{count}
 use Rattle.rules.specs.SoloPart.{asked, firstThat, solo}
 use Rattle.rules.specs.Values.{lineHeld}
-use Rattle.laws.proofs.Counting.{count-nil, count-append, count-same, count-other}
+use Rattle.rules.proofs.Counting.{count-nil, count-append, count-same, count-other}
 use Rattle.laws.proofs.Opening.{length-solo}
 use Rattle.laws.proofs.LentRows.{length-written}
 use Rattle.solo.specs.declared.Player.{Player}

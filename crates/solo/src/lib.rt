@@ -179,8 +179,7 @@ pub fn solo_part(table: &[u8], log: &[u8], booth: usize, n: usize, part: &mut [u
             refusal: log_refusal,
         };
     }
-    let found = call_fault(held, logged.horizon, booth, n, part.len());
-    if let Fault::Found(call_refusal) = found {
+    if let Fault::Found(call_refusal) = call_fault(held, logged.horizon, booth, n, part.len()) {
         return Verdict {
             refused: Refused::TheCall,
             refusal: call_refusal,

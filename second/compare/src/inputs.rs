@@ -9,9 +9,10 @@ mod sessions;
 mod tables;
 
 pub use desk::kinds_of_input;
-pub use good::{audition, every_tick, full_house, full_log};
+pub use good::{audition, full_log};
 pub use largest::largest_sessions;
 pub use logs::kinds_of_log;
+pub use second::generate::{every_tick, full_house};
 pub use sessions::{damaged_files, lent_record, long_sessions, Session};
 pub use tables::kinds_of_table;
 

@@ -13,7 +13,8 @@ use Rattle.arrivals.proofs.Numbers.{number-zero, number-not-zero}
 use Rattle.arrivals.proofs.Entries.{accepted}
 use Rattle.session.specs.Answer.{answered}
 use Rattle.session.proofs.ByCases.{table-refused, log-refused, wall-short, own-short}
-use Rattle.session.proofs.Played.{refused-all, table-read, lines-count, playable, plays-it}
+use Rattle.table.proofs.Test.{lines-in}
+use Rattle.session.proofs.Played.{refused-all, table-read, playable, plays-it}
 use borrow.Author.Needs.{needs}
 use Rattle.session.proofs.session.Statement.{statement}
 use Rattle.session.proofs.session.Tie as tie
@@ -91,7 +92,7 @@ returns-4 c =
     let k = answer-taken (st .args .table .now) (a .result) (a .ensures .0) (c .before .before .before .before .before .before .before .before .before .before .if1 .left) in
     let l = c .before .before .before .before .before .before .before .before .read-log in
     let r = number-zero (linesHeld (a .result .table)) (st .args .log .now) (l .result) (l .ensures) (c .before .before .before .before .before .if2 .left) in
-    let short = lines-count (st .args .table .now) (st .args .log .now) (st .args .wall .now) (st .args .own .now) (a .result) k (a .ensures .1) (r .log) (r .read) in
+    let short = lines-in (a .result .table) (a .ensures .1) in
     refused-all (page.session (st .args .table .now) (st .args .log .now) (st .args .wall .now) (st .args .own .now)) _ (st .args .wall .now) (st .args .own .now) (c .nothing-done4 .result)
     (own-short (st .args .table .now) (st .args .log .now) (st .args .wall .now) (st .args .own .now) (linesHeld (a .result .table)) (k .read ∙ ap taken (sym (ap linesHeld (k .held) ∙ lines-held (k .lines)))) (r .log) (r .read) (omega (arith, r .horizon, c .before .before .before .if3 .left))
     (subst (λ m. length (st .args .own .now) < length (linesHeld (a .result .table)) * m) (r .horizon) (omega (arith, ap (λ m. m * l .result .horizon) short, c .before .if4 .taken)))) (c .nothing-done4 .ensures)

@@ -7,7 +7,8 @@ use Rattle.rules.specs.BoothTable.{no-line}
 use Rattle.rules.specs.Due.{due}
 use Rattle.rules.specs.Refusals.{faultOf}
 use Rattle.rules.specs.Values.{linesHeld}
-use Rattle.solo.proofs.Cases.{lines-in, promise-in, call-absent, call-many, call-long, call-fits}
+use Rattle.table.proofs.Test.{lines-in}
+use Rattle.solo.proofs.Cases.{promise-in, call-absent, call-many, call-long, call-fits}
 use borrow.Author.Needs.{needs}
 use Rattle.solo.proofs.call_fault.Statement.{statement}
 use Rattle.solo.proofs.call_fault.Tie as tie

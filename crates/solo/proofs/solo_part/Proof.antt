@@ -15,7 +15,8 @@ use Rattle.rules.proofs.Held.{lines-held}
 use Rattle.table.proofs.Numbers.{answer-taken, answer-refused}
 use Rattle.arrivals.proofs.Numbers.{Took, number-zero, number-not-zero}
 use Rattle.solo.specs.Alone.{ownIn}
-use Rattle.solo.proofs.Cases.{lines-in, line-in, Fits, call-passed, bad-table, bad-log, bad-call, part-written}
+use Rattle.table.proofs.Test.{lines-in, line-in}
+use Rattle.solo.proofs.Cases.{Fits, call-passed, bad-table, bad-log, bad-call, part-written}
 use Rattle.solo.proofs.OneBooth.{own-are, alone, due-small}
 use borrow.Author.Needs.{needs}
 use Rattle.solo.proofs.solo_part.Statement.{statement}
@@ -64,8 +65,8 @@ checked c =
 call-fault-requires : tie.Need-call-fault-requires
 call-fault-requires c κs = search needs
 
-enum-known-found : tie.Need-enum-known-found
-enum-known-found c = search needs
+enum-known-call-refusal : tie.Need-enum-known-call-refusal
+enum-known-call-refusal c = search needs
 
 returns-3 : tie.Need-returns-3
 unfolding refusedAs
@@ -73,7 +74,7 @@ returns-3 c =
     let start = c .before .before .before .before .before .before .before .before .before .before .before .before .before .before .before .before in
     let took = log-taken (c .before .before .before .before) in
     let is = bad-call (start .args .table .now) (start .args .log .now) (start .args .booth) (start .args .n) (start .args .part .now) _
-    (lines-taken (c .before .before .before .before .before .before .before .before .before)) (took .log) (took .read) _ (fault-found _ _ (sym (checked (c .before .before .before)) ∙ c .before .found .given .1)) in
+    (lines-taken (c .before .before .before .before .before .before .before .before .before)) (took .log) (took .read) _ (fault-found _ _ (sym (checked (c .before .before .before)) ∙ c .before .call-refusal .given .1)) in
     (sym (ap (λ o. o .verdict) is), sym (ap (λ o. o .buffer) is))
 
 enum-told : tie.Need-enum-told
@@ -141,7 +142,7 @@ solo-part-spec =
     read-log-requires
     returns-2
     call-fault-requires
-    enum-known-found
+    enum-known-call-refusal
     returns-3
     enum-told
     mul-line

@@ -1,9 +1,8 @@
 //! Good files.
 
 use second::arrivals::{Entry, Log};
-use second::generate::{log_bytes, random_session, table_bytes};
+use second::generate::{full_house, log_bytes, random_session, table_bytes};
 use second::random::Random;
-use second::table::{Line, Table};
 use second::ticks::WallTick;
 
 use super::{randoms, Files};
@@ -25,19 +24,6 @@ pub fn audition() -> Files {
     }
 }
 
-/// Eight booths of 1 in 8 with eight tasks each: the longest table, admitted
-/// since booth i passes at R = i + 1.
-pub fn full_house(longest_job: u64) -> Table {
-    let line = Line {
-        period: 8,
-        allowance: 1,
-        longest_jobs: vec![longest_job; 8],
-    };
-    Table {
-        lines: vec![line; 8],
-    }
-}
-
 /// `count` entries spread evenly over H wall ticks, for all tasks of all booths
 /// in turn, each with the same demand.
 pub fn full_log(h: u64, count: u64, demand: u64) -> Log {
@@ -46,20 +32,6 @@ pub fn full_log(h: u64, count: u64, demand: u64) -> Log {
         booth: number as usize % 8,
         task: number as usize / 8 % 8,
         demand,
-    };
-    Log {
-        wall_ticks: WallTick(h),
-        entries: (0..count).map(entry).collect(),
-    }
-}
-
-/// An entry for each of `count` ticks from 0, all for the first task of booth 0.
-pub fn every_tick(h: u64, count: u64) -> Log {
-    let entry = |tick| Entry {
-        tick: WallTick(tick),
-        booth: 0,
-        task: 0,
-        demand: 1,
     };
     Log {
         wall_ticks: WallTick(h),

@@ -1,8 +1,9 @@
 //! The largest sessions: 1,000,000 wall ticks, 4,096 entries, eight booths.
 
+use second::generate::full_house;
 use second::table::{Line, Table};
 
-use super::good::{full_house, full_log};
+use super::good::full_log;
 use super::Session;
 
 /// Eight booths with periods from 5 to 1,000, admitted with little left over.

@@ -1,10 +1,10 @@
 //! Arrival logs of every kind, each with a table to read it against.
 
 use second::damage::{damaged, each_byte_changed, each_cut, head_that_lies, File};
-use second::generate::{log_bytes, table_bytes};
+use second::generate::{full_house, log_bytes, table_bytes};
 use second::random::Random;
 
-use super::good::{dozen, full_house, full_log, random_files};
+use super::good::{dozen, full_log, random_files};
 use super::tables::any_bytes;
 use super::{randoms, Files, Kind};
 
