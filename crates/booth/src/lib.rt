@@ -21,7 +21,7 @@ pub const NOBODY: u8 = 255;
 pub const NEVER: u32 = 4294967295;
 
 pub struct Booth {
-    pub number: u8,
+    pub number: usize,
     pub line: Line,
     // The own clock u.
     pub clock: OwnTick,
@@ -42,13 +42,13 @@ pub enum Chosen {
 }
 
 // Where the booth's next entry lies, from a place on; the log's end where there is none.
-fn next_of(log: &[u8], number: u8, from: usize) -> usize
+fn next_of(log: &[u8], number: usize, from: usize) -> usize
     requires { ⌜ Place (now log) from ⌝ }
     ensures { λ r. ⌜ Found (now (log .entry)) number from r ⌝ }
 {
     let mut at = from;
     while at < log.len() {
-        if log[at + 5] == number {
+        if rules::wide(log[at + 5]) as usize == number {
             return at;
         }
         at += 9;
@@ -107,7 +107,7 @@ impl Booth {
     }
 
     // A booth before wall tick 0: own clock 0, no demand, nothing added, an empty row.
-    pub fn open(number: u8, line: Line, log: &[u8]) -> Self
+    pub fn open(number: usize, line: Line, log: &[u8]) -> Self
         requires { ⌜ Log (now log) × FitLine line ⌝ }
         requires { ⌜ ((at : ℕ) → Place (now log) at → at < length (now log) → (entryAt (now log) at) .booth ≡ number → (entryAt (now log) at) .task < line .tasks) ⌝ }
         ensures fit { λ r. ⌜ Fit (now (log .entry)) r × (r .number ≡ number) × (r .line ≡ line) ⌝ }

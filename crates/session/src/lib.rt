@@ -55,7 +55,7 @@ fn open_all(table: Table, log: &[u8]) -> [Booth; 8]
     let mut j = 0;
     while j < n {
         let line = lines[j];
-        booths[j] = Booth::open(j as u8, line, log);
+        booths[j] = Booth::open(j, line, log);
         j += 1;
     }
     booths

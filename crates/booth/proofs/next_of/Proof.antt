@@ -1,16 +1,14 @@
 -- `booth::next_of` meets its contract: every entry passed is another booth's. Assumes nothing.
 use mathlib.Core.Path.{_≡_, refl, sym, _∙_}
-use Prim.Native.Nat.{_+_, _-_, _≤_, _<_}
+use Prim.Native.Nat.{_-_, _≤_}
 use native.Mathlib.Omega.{arith}
 use borrow.Author.Needs.{needs}
 use lib.ListN.{length}
 use Rattle.rules.specs.ArrivalLog.{entryAt}
-use Rattle.booth.specs.Shown.{waitingAt, Place, Found}
+use Rattle.booth.specs.Shown.{waitingAt, Place}
 use Rattle.booth.proofs.Waiting.{whole-entry, waiting-other}
 use Rattle.booth.proofs.next_of.Statement.{statement}
 use Rattle.booth.proofs.next_of.Tie as tie
-use Rattle.booth.proofs.next_of.Reads as reads
-use Rattle.booth.proofs.next_of.Lts as lts
 
 abbrev Inv-loop : tie.InvT-loop
 Inv-loop log number from at₀ at = Place log at × (from ≤ at) × (waitingAt log number at ≡ waitingAt log number from)
@@ -19,20 +17,28 @@ abbrev μ-loop : tie.MeasureT-loop
 μ-loop log number from at₀ at = length log - at
 
 loop-holds : tie.Need-loop-holds Inv-loop μ-loop
-loop-holds c = (c .pre, omega arith, refl)
+loop-holds c = (c .before .pre, omega arith, refl)
 
-add-if1 : tie.Need-add-if1 Inv-loop μ-loop
-add-if1 c = search needs
+add-wide : tie.Need-add-wide Inv-loop μ-loop
+add-wide c = omega (arith, (whole-entry (c .before .before .before .args .log .now) (c .before .loop .at) (c .before .loop .inv .0) (c .loop-test .taken)) .0)
 
-shared-slice-read-if1 : tie.Need-shared-slice-read-if1 Inv-loop μ-loop
-shared-slice-read-if1 c = omega (arith, (whole-entry (c .before .before .before .args .log .now) (c .before .before .loop .at) (c .before .before .loop .inv .0) (c .before .loop-test .taken)) .0)
+shared-slice-read-wide : tie.Need-shared-slice-read-wide Inv-loop μ-loop
+shared-slice-read-wide c = omega (arith, (whole-entry (c .before .before .before .before .args .log .now) (c .before .before .loop .at) (c .before .before .loop .inv .0) (c .before .loop-test .taken)) .0)
+
+wide-requires : tie.Need-wide-requires Inv-loop μ-loop
+wide-requires c κs = tt
+
+cast-if1 : tie.Need-cast-if1 Inv-loop μ-loop
+cast-if1 c = search needs
 
 returns : tie.Need-returns Inv-loop μ-loop
 unfolding entryAt
-returns c = record { place = c .before .before .before .loop .inv .0; later = c .before .before .before .loop .inv .1; same = c .before .before .before .loop .inv .2; here = λ h. c .if1 .taken }
+returns c =
+    let inv = c .before .before .before .before .loop .inv in
+    record { place = inv .0; later = inv .1; same = inv .2; here = λ h. sym (c .before .wide .ensures .0) ∙ c .if1 .taken }
 
 add-at : tie.Need-add-at Inv-loop μ-loop
-add-at c = omega (arith, (whole-entry (c .before .before .before .before .args .log .now) (c .before .before .before .loop .at) (c .before .before .before .loop .inv .0) (c .before .before .loop-test .taken)) .0)
+add-at c = omega (arith, (whole-entry (c .before .before .before .before .before .before .args .log .now) (c .before .before .before .before .loop .at) (c .before .before .before .before .loop .inv .0) (c .before .before .before .loop-test .taken)) .0)
 
 loop-less : tie.Need-loop-less Inv-loop μ-loop
 loop-less c = search needs
@@ -40,13 +46,13 @@ loop-less c = search needs
 loop-again : tie.Need-loop-again Inv-loop μ-loop
 unfolding entryAt
 loop-again c =
-    let bs = c .before .before .before .before .args .log .now in
-    let at = c .before .before .before .loop .at in
-    let inv = c .before .before .before .loop .inv in
-    let inside = c .before .before .loop-test .taken in (
+    let bs = c .before .before .before .before .before .before .args .log .now in
+    let at = c .before .before .before .before .loop .at in
+    let inv = c .before .before .before .before .loop .inv in
+    let inside = c .before .before .before .loop-test .taken in (
       (whole-entry bs at (inv .0) inside) .1,
       omega arith,
-      sym (waiting-other bs (c .before .before .before .before .args .number) at (inv .0) inside (c .if1 .left)) ∙ inv .2,
+      sym (waiting-other bs (c .before .before .before .before .before .before .args .number) at (inv .0) inside (λ e. c .if1 .left (c .before .wide .ensures .0 ∙ e))) ∙ inv .2,
     )
 
 returns-2 : tie.Need-returns-2 Inv-loop μ-loop
@@ -59,8 +65,10 @@ next-of-spec =
     Inv-loop
     μ-loop
     loop-holds
-    add-if1
-    shared-slice-read-if1
+    add-wide
+    shared-slice-read-wide
+    wide-requires
+    cast-if1
     returns
     add-at
     loop-less

@@ -30,9 +30,6 @@ mul-line c = omega (arith, c .before .before .before .before .before .pre .fit .
 array-copy-out-line : tie.Need-array-copy-out-line Inv-loop μ-loop
 array-copy-out-line c = omega (arith, c .before .before .before .before .before .pre .fit .lines .few)
 
-cast-open : tie.Need-cast-open Inv-loop μ-loop
-cast-open c = omega (arith, c .before .before .before .before .before .before .pre .fit .lines .few)
-
 open-requires : tie.Need-open-requires Inv-loop μ-loop
 open-requires c κs =
     let start = c .before .before .before .before .before .before in
@@ -75,7 +72,6 @@ open-all-spec =
     loop-holds
     mul-line
     array-copy-out-line
-    cast-open
     open-requires
     mul-booths
     array-set-from-booths

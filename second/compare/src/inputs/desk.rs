@@ -3,12 +3,13 @@
 use second::damage::{damaged, each_byte_changed, each_cut, head_that_lies, random_bytes, File};
 use second::desk::{MOST_DESK_TICKS, MOST_INPUT};
 use second::generate::{
-    log_bytes, random_log, random_session, random_table, LONG_AND_SPARSE, WHOLE_EVENING,
+    every_tick, full_house, log_bytes, random_log, random_session, random_table, LONG_AND_SPARSE,
+    WHOLE_EVENING,
 };
 use second::random::Random;
 
 use super::edge::at_the_edge;
-use super::good::{audition, every_tick, full_house, full_log, random_files};
+use super::good::{audition, full_log, random_files};
 use super::sessions::damaged_files;
 use super::tables::any_bytes;
 use super::{randoms, Kind, Session};
