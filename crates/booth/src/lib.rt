@@ -21,6 +21,7 @@ pub const NOBODY: u8 = 255;
 pub const NEVER: u32 = 4294967295;
 
 pub struct Booth {
+    // Below 8, in a whole word, so that no padding is copied with the state.
     pub number: usize,
     pub line: Line,
     // The own clock u.
