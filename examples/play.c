@@ -25,6 +25,10 @@ static size_t read_file(const char *name, uint8_t *bytes)
         exit(2);
     }
     size_t read = fread(bytes, 1, MOST_BYTES, file);
+    if (fgetc(file) != EOF) {
+        fprintf(stderr, "%s: longer than any table or log\n", name);
+        exit(2);
+    }
     fclose(file);
     return read;
 }
