@@ -207,8 +207,8 @@ impl Booth {
         self
     }
 
-    // Settle at t.
-    pub fn settle(mut self, log: &[u8], row: &mut [u8], t: WallTick) -> Self
+    // Takes the entries that are to be added at t, then rests where no demand is left.
+    fn catch_up(mut self, log: &[u8], row: &mut [u8], t: WallTick) -> Self
         requires { ⌜ Log (now log) × Fit (now log) self × (t .0 < 1000001) × (t .0 ≤ length (now row)) × (self .clock .0 ≤ page.due (self .line .promise) (t .0)) ⌝ }
         ensures fit { λ r. ⌜ AfterSettle (now (log .entry)) (t .0) self r ⌝ }
         ensures state { λ r. ⌜ shown (now (log .entry)) r (now (row .exit)) ≡ moves.settle (t .0) (shown (now (log .entry)) self (now (row .entry))) ⌝ }
@@ -222,6 +222,22 @@ impl Booth {
             let promise = line.promise;
             let to = rules::due(promise, t);
             self = self.pass(row, to);
+        }
+        self
+    }
+
+    // Settle at t. A booth with demand and no entry to add is settled as it is; most are, so nothing of it is written anew.
+    pub fn settle(self, log: &[u8], row: &mut [u8], t: WallTick) -> Self
+        requires { ⌜ Log (now log) × Fit (now log) self × (t .0 < 1000001) × (t .0 ≤ length (now row)) × (self .clock .0 ≤ page.due (self .line .promise) (t .0)) ⌝ }
+        ensures fit { λ r. ⌜ AfterSettle (now (log .entry)) (t .0) self r ⌝ }
+        ensures state { λ r. ⌜ shown (now (log .entry)) r (now (row .exit)) ≡ moves.settle (t .0) (shown (now (log .entry)) self (now (row .entry))) ⌝ }
+        ensures row { λ r. ⌜ drop (r .clock .0) (now (row .exit)) ≡ drop (r .clock .0) (now (row .entry)) ⌝ }
+    {
+        if self.takes(t) {
+            return self.catch_up(log, row, t);
+        }
+        if self.first == 8 {
+            return self.catch_up(log, row, t);
         }
         self
     }
