@@ -233,10 +233,7 @@ impl Booth {
         ensures state { λ r. ⌜ shown (now (log .entry)) r (now (row .exit)) ≡ moves.settle (t .0) (shown (now (log .entry)) self (now (row .entry))) ⌝ }
         ensures row { λ r. ⌜ drop (r .clock .0) (now (row .exit)) ≡ drop (r .clock .0) (now (row .entry)) ⌝ }
     {
-        if self.takes(t) {
-            return self.catch_up(log, row, t);
-        }
-        if self.first == 8 {
+        if self.first == 8 || self.takes(t) {
             return self.catch_up(log, row, t);
         }
         self
