@@ -233,10 +233,13 @@ impl Booth {
         ensures state { λ r. ⌜ shown (now (log .entry)) r (now (row .exit)) ≡ moves.settle (t .0) (shown (now (log .entry)) self (now (row .entry))) ⌝ }
         ensures row { λ r. ⌜ drop (r .clock .0) (now (row .exit)) ≡ drop (r .clock .0) (now (row .entry)) ⌝ }
     {
-        if self.first == 8 || self.takes(t) {
+        if self.takes(t) {
             return self.catch_up(log, row, t);
         }
-        self
+        if self.first < 8 {
+            return self;
+        }
+        self.catch_up(log, row, t)
     }
 
     // A settled booth answers with a task to run at t, or with nothing.

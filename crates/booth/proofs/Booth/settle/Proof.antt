@@ -27,10 +27,29 @@ returns-2 c =
     let row = st .args .row .now in
     let s = settles-first bs t h row (st .pre .1) (st .pre .4) in
     let fits = due-fits bs t h row h row s (st .pre .3) in
-    let test = sym (c .before .takes .ensures) ∙ c .if2 .left in (
+    let test = sym (c .before .before .before .takes .ensures) ∙ c .before .before .if1 .left in (
       record { fit = s .fit; line = refl; number = refl; grown = omega arith; cap = st .pre .4 },
-      (settled-busy bs t h row h row s (fits .0) (st .pre .0) (st .pre .1) (st .pre .4) test (c .before .before .if1 .left), refl),
+      (settled-busy bs t h row h row s (fits .0) (st .pre .0) (st .pre .1) (st .pre .4) test (λ e. omega (arith, e, c .if2 .taken)), refl),
     )
 
+catch-up-requires-2 : tie.Need-catch-up-requires-2
+catch-up-requires-2 c κs = search needs
+
+same-length-2 : tie.Need-same-length-2
+same-length-2 c = search needs
+
+returns-3 : tie.Need-returns-3
+returns-3 c = search needs
+
 pub settle-spec : {M : Type 1} → statement M
-settle-spec = tie.close (tie.spec takes-requires catch-up-requires same-length returns returns-2)
+settle-spec =
+    tie.close
+    (tie.spec
+    takes-requires
+    catch-up-requires
+    same-length
+    returns
+    returns-2
+    catch-up-requires-2
+    same-length-2
+    returns-3)
