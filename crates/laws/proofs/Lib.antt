@@ -16,6 +16,7 @@ pub mod Admitted
 pub mod LentRows
 pub mod SoloAlike
 pub mod Answered
+pub mod RowBytes
 pub mod Theorems
 pub mod AuditionLaws
 pub mod FirstWorker

@@ -6,7 +6,7 @@ use Prim.Native.Nat.{ℕ, zero, suc, _+_, _-_, _*_, _/_, _%_, _^_, _<_}
 use native.Mathlib.Nat.{pow-zero, pow-suc}
 use native.Mathlib.Omega.{arith}
 use lib.Dec.{ltb}
-use lib.ListN.{length, getD, length-append}
+use lib.ListN.{length, getD, length-append, List·getD-append}
 use borrow.Author.Tests.{ltb-false, lt-ltb}
 use Rattle.rules.specs.Desk.{digits, decimal}
 use Rattle.laws.specs.Statements.{spelled, PrintedNumbers}
@@ -36,10 +36,6 @@ some-digit most n = go (ltb n 10) refl
     go true e = rw (e, digits) (omega arith)
     go false e = rw (e, digits) (omega (arith, length-append (digits most (n / 10)) ((48 + n % 10) ∷ [])))
 
-first-of : (xs ys : List ℕ) → 0 < length xs → getD (xs ++ ys) 0 0 ≡ getD xs 0 0
-first-of [] ys h = absurd (omega (arith, h))
-first-of (x ∷ xs) ys h = refl
-
 first-zero : (most n : ℕ) → n < 10 ^ most → getD (digits most n) 0 0 ≡ 48 → n ≡ 0
 unfolding digits
 first-zero zero n h z = omega (arith, h, pow-zero 10)
@@ -49,7 +45,7 @@ first-zero (suc (suc most)) n h z = go (first-zero (suc most) (n / 10) (ten-more
     go : (getD (digits (suc most) (n / 10)) 0 0 ≡ 48 → n / 10 ≡ 0) → (b : Bool) → ltb n 10 ≡ b → n ≡ 0
     go ih true e = omega (arith, rw (e, digits) at z)
     go ih false e =
-        let first : getD (digits (suc most) (n / 10)) 0 0 ≡ 48 = sym (first-of (digits (suc most) (n / 10)) ((48 + n % 10) ∷ []) (some-digit most (n / 10))) ∙ (rw (e, digits) at z) in
+        let first : getD (digits (suc most) (n / 10)) 0 0 ≡ 48 = sym (List·getD-append (digits (suc most) (n / 10)) ((48 + n % 10) ∷ []) 0 0 (some-digit most (n / 10))) ∙ (rw (e, digits) at z) in
         omega (arith, ih first, ltb-false n 10 e)
 
 pub printed-numbers : PrintedNumbers

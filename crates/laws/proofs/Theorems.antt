@@ -18,6 +18,7 @@ use Rattle.laws.proofs.Clocks.{whole-periods, never-ahead, never-behind
 use Rattle.laws.proofs.Rows.{opened, opening, row-length, worked}
 use Rattle.laws.proofs.WallRecord.{in-range-at, all-counted, worked-at, length-worked, length-wall, wall-in-range}
 use Rattle.laws.proofs.SoloAlike.{solo-alike, take-solo}
+use Rattle.laws.proofs.RowBytes.{solo-bytes}
 use Rattle.laws.proofs.Answered.{has-read, answers, or-nothing, room, lines-read, log-is-read, good-line, passing, as-read, clock-is, clocks-length, worked-is, idle-is, wall-is, row-is, wall-kept, row-kept, own-kept, lengths-kept}
 
 sorted-at : (es : List Entry) → Sorted es → (n : ℕ) → suc n < length es → (getD es n no-entry) .tick ≤ (getD es (suc n) no-entry) .tick
@@ -128,6 +129,8 @@ counted-once =
       all = all-ticks;
       figures = λ s. (clocks-length s, ap length (worked-is s) ∙ length-worked 0 (booths s) (W s));
       wall-bytes = byte-at;
+      row-bytes = λ s i h n l.
+          subst (λ r. (getD r n 0 < length ((lineOf s i) .longest)) ⊎ (getD r n 0 ≡ nobody)) (sym (rows-open .row s i h)) (solo-bytes (lineOf s i) (entriesOf s i) (clockOf s i) n l);
       row-length = length-is;
       row-worked = λ s i h.
           omega (

@@ -29,11 +29,6 @@ use Rattle.solo.specs.Alone.{Alone, Point, Plays, Admitted, Passed, entr
 use Rattle.solo.proofs.Waiting.{waiting-own, waiting-other, asked-task, asked-elsewhere, none-asked}
 use Rattle.solo.proofs.FirstTask.{found, alike}
 
-pub zeros : (m k : ℕ) → _≡_ {A = ℕ} (getD (replicate m 0) k 0) 0
-zeros zero k = refl
-zeros (suc m) zero = refl
-zeros (suc m) (suc k) = zeros m k
-
 -- a store at one task
 stored : (xs : List ℕ) (i v k : ℕ) → i < length xs → (k ≡ i → getD (set xs i v) k 0 ≡ v) × (k ≢ i → getD (set xs i v) k 0 ≡ getD xs k 0)
 stored xs i v k h = ((λ e. ap (λ j. getD (set xs i v) j 0) e ∙ getD-set-same xs i v 0 h), getD-set-other xs i k v 0)

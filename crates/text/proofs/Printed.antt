@@ -19,6 +19,7 @@ use Rattle.rules.specs.Session.{Outcome, settledAt, nothingDone, played, sessio
 use Rattle.rules.specs.RowBack.{rowBack}
 use Rattle.rules.specs.Values.{padded}
 use Rattle.rules.specs.Desk as page
+use Rattle.rules.proofs.Held.{zeros}
 use Rattle.laws.proofs.Run.{length-booths}
 use Rattle.laws.proofs.Readers.{read-lines}
 use Rattle.laws.proofs.Admitted.{read-table}
@@ -98,13 +99,8 @@ module _ (table log wall own : List ℕ) where
 
 -- ---- the arrays of eight print as the lists they hold
 
-getD-zeros : (k i : ℕ) → _≡_ {A = ℕ} (getD (replicate k 0) i 0) 0
-getD-zeros zero i = refl
-getD-zeros (suc k) zero = refl
-getD-zeros (suc k) (suc i) = getD-zeros k i
-
 getD-held : (xs : List ℕ) (k i : ℕ) → getD (xs ++ replicate k 0) i 0 ≡ getD xs i 0
-getD-held [] k i = getD-zeros k i
+getD-held [] k i = zeros k i
 getD-held (x ∷ xs) k zero = refl
 getD-held (x ∷ xs) k (suc i) = getD-held xs k i
 

@@ -6,7 +6,8 @@ use Rattle.rules.specs.Bytes.{written}
 use Rattle.rules.specs.SoloPart.{solo}
 use Rattle.rules.specs.Values.{lineHeld}
 use Rattle.solo.specs.Alone.{Plays, ownIn}
-use Rattle.solo.proofs.Playing.{zeros, starts, none-written, length-part, written-more}
+use Rattle.rules.proofs.Held.{zeros}
+use Rattle.solo.proofs.Playing.{starts, none-written, length-part, written-more}
 use Rattle.solo.proofs.write_part.Statement.{statement}
 use Rattle.solo.proofs.write_part.Tie as tie
 
