@@ -49,7 +49,7 @@ fn next_of(log: &[u8], number: usize, from: usize) -> usize
 {
     let mut at = from;
     while at < log.len() {
-        if rules::wide(log[at + 5]) as usize == number {
+        if base::wide(log[at + 5]) as usize == number {
             return at;
         }
         at += 9;
@@ -139,7 +139,7 @@ impl Booth {
             self.tick = tick;
             return self;
         }
-        let tick = WallTick(rules::number32(log, at + 1));
+        let tick = WallTick(base::number32(log, at + 1));
         self.tick = tick;
         let line = self.line;
         let promise = line.promise;
@@ -198,8 +198,8 @@ impl Booth {
         ensures row { λ r. ⌜ now (row .exit) ≡ lengthened (now (row .entry)) (self .clock .0) (replicate (self .point .0 - self .clock .0) 255) ⌝ }
     {
         let at = self.at;
-        let k = rules::wide(log[at + 6]) as usize;
-        let d = rules::number16(log, at + 7);
+        let k = base::wide(log[at + 6]) as usize;
+        let d = base::number16(log, at + 7);
         let to = self.point;
         self = self.pass(row, to);
         self = self.add(k, d);

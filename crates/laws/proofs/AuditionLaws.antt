@@ -5,8 +5,9 @@ use Prim.Native.Nat.{_<_, min}
 use native.Mathlib.Omega.{arith}
 use lib.ListN.{length}
 use lib.Seq.{take-all}
-use Rattle.rules.specs.Bytes
-use Rattle.rules.specs.Refusals
+use Rattle.base.specs.Bytes
+use Rattle.base.specs.Refusals
+use Rattle.rules.specs.Verdicts
 use Rattle.rules.specs.BoothTable
 use Rattle.rules.specs.ArrivalLog
 use Rattle.rules.specs.Admission

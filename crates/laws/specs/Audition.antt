@@ -3,8 +3,9 @@ use mathlib.Core.Path.{_≡_, refl}
 use mathlib.Core.List.{List, [], _∷_}
 use Prim.Native.Nat.{ℕ}
 use lib.ListN.{length}
-use Rattle.rules.specs.Bytes
-use Rattle.rules.specs.Refusals
+use Rattle.base.specs.Bytes
+use Rattle.base.specs.Refusals
+use Rattle.rules.specs.Verdicts
 use Rattle.rules.specs.BoothTable
 use Rattle.rules.specs.BoothTable.{Line}
 use Rattle.rules.specs.ArrivalLog
@@ -30,7 +31,7 @@ unfolding
     lines entry
     MarkedCases.tableWith audition MarkedCases.logOf MarkedCases.entryOf auditionLog otherLog lent
     Bytes.bigEndian Bytes.numberAt Bytes.written
-    Refusals.refusal Refusals.refuseIf Refusals.firstFault Refusals.accepted Refusals.refusedAs
+    Refusals.refusal Refusals.refuseIf Refusals.firstFault Verdicts.accepted Verdicts.refusedAs
     BoothTable.no-line BoothTable.tableN BoothTable.headerChecks BoothTable.jobsAt BoothTable.recordL BoothTable.recordEnd BoothTable.lineAt
     BoothTable.lengthAllowed BoothTable.someZero BoothTable.lineChecks BoothTable.recordChecks BoothTable.withLine BoothTable.readRecords BoothTable.readLines
     Admission.roundedUp Admission.askedAbove Admission.someUpTo Admission.passes Admission.firstFailing Admission.readTable

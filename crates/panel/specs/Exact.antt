@@ -5,7 +5,7 @@ use Prim.Native.Nat.{ℕ, _^_}
 use lib.IntN.{pos}
 use lib.Ieee.{Float, binary64, mul, ofInt}
 use lib.ListN.{take}
-use Rattle.rules.specs.Refusals.{accepted}
+use Rattle.rules.specs.Verdicts.{accepted}
 use Rattle.rules.specs.Session.{count}
 use Rattle.rules.specs.Panel.{panel}
 

@@ -3,14 +3,15 @@ ghost use mathlib.Core.Path.{_≡_};
 ghost use Prim.Native.Nat.{_+_, _*_, _≤_, _<_};
 ghost use lib.ListN.{length};
 ghost use Rattle.rules.specs.declared.Refused.the-variants.{TheCall};
-ghost use Rattle.rules.specs.Refusals.{refusal, refusedAs};
+ghost use Rattle.base.specs.Refusals.{refusal};
+ghost use Rattle.rules.specs.Verdicts.{refusedAs};
 ghost use Rattle.rules.specs.Session as page;
 ghost use Rattle.rules.specs.Values.{linesHeld};
 ghost use Rattle.session.specs.Answer as said;
 ghost use Rattle.session.specs.Running.{logOf, Opening, Opened, Ready, NextAwake, Ran, Ended, Closed, Clocks, Playable};
+use base::Refusal;
 use booth::Booth;
 use booth::Chosen;
-use rules::Refusal;
 use rules::Refused;
 use rules::Table;
 use rules::Verdict;
@@ -211,7 +212,7 @@ pub fn session(table: &[u8], log: &[u8], wall: &mut [u8], own: &mut [u8]) -> Ses
     }
     let h = logged.horizon as usize;
     let unfit = Refusal {
-        number: 11,
+        number: base::DOES_NOT_FIT,
         place: 0,
     };
     if wall.len() < h {

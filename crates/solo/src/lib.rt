@@ -4,18 +4,18 @@ ghost use mathlib.Core.List.{List};
 ghost use Prim.Native.Nat.{ℕ, _+_, _*_, _≤_, _<_};
 ghost use lib.Dec.{ltb};
 ghost use lib.ListN.{length, getD, set};
-ghost use Rattle.rules.specs.Bytes.{written};
+ghost use Rattle.base.specs.Bytes.{written};
 ghost use Rattle.rules.specs.Due.{due};
-ghost use Rattle.rules.specs.Refusals.{firstFault, faultOf};
+ghost use Rattle.base.specs.Refusals.{firstFault, faultOf};
 ghost use Rattle.rules.specs.SoloPart as page;
 ghost use Rattle.rules.specs.Values.{lineHeld, linesHeld};
 ghost use Rattle.table.specs.Fit.{FitTable, Sounds};
 ghost use Rattle.solo.specs.Alone.{Alone, WholeLog, Point, Plays, Admitted, Passed, entriesIn, ownIn, ownTick};
 use arrivals::Entry;
-use rules::Fault;
+use base::Fault;
+use base::Refusal;
 use rules::Line;
 use rules::OwnTick;
-use rules::Refusal;
 use rules::Refused;
 use rules::Table;
 use rules::Verdict;
@@ -142,17 +142,17 @@ fn call_fault(table: Table, horizon: u32, booth: usize, n: usize, room: usize) -
     ensures { λ r. ⌜ ((buffer : List ℕ) → length buffer ≡ room → r ≡ faultOf (firstFault (page.soloChecks (linesHeld table) horizon booth n buffer))) ⌝ }
 {
     if table.booths <= booth {
-        return rules::fault_at(9, 0);
+        return base::fault_at(base::NO_SUCH_BOOTH_OR_TASK, 0);
     }
     let lines = table.lines;
     let line = lines[booth];
     let promise = line.promise;
     let all = rules::due(promise, WallTick(horizon));
     if (all.0 as usize) < n {
-        return rules::fault_at(11, 0);
+        return base::fault_at(base::DOES_NOT_FIT, 0);
     }
     if room < n {
-        return rules::fault_at(11, 0);
+        return base::fault_at(base::DOES_NOT_FIT, 0);
     }
     Fault::Nothing
 }
