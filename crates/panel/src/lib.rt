@@ -13,10 +13,15 @@ ghost use Rattle.panel.specs.Exact.{ExactAtPowers};
 ghost use Rattle.panel.specs.Shown.{shownReading, shownRow};
 use base::Fault;
 use base::Refusal;
+use rules::BOOTHS_ALLOWED;
+use rules::LONGEST_SESSION;
 use rules::Promise;
 use rules::Refused;
 use rules::Verdict;
 use rules::WallTick;
+
+// A row has a place for every wall tick.
+const LONGEST_ROW: usize = LONGEST_SESSION as usize;
 
 // None yet, or how worked stands to due, with the share got.
 pub enum Reading {
@@ -50,10 +55,10 @@ fn accepted() -> Verdict
 fn row_fault(own: &[u8], h: usize, booth: usize, count: usize) -> Fault
     ensures { λ r. ⌜ r ≡ faultOf (firstFault (row.rowChecks (now (own .entry)) h booth count)) ⌝ }
 {
-    if 8 <= booth {
+    if BOOTHS_ALLOWED <= booth {
         return base::fault_at(base::DOES_NOT_FIT, 0);
     }
-    if 1000000 < h {
+    if LONGEST_ROW < h {
         return base::fault_at(base::DOES_NOT_FIT, 0);
     }
     if h < count {
@@ -188,7 +193,7 @@ pub fn panel(table: &[u8], wall: &[u8], booth: usize, t: WallTick) -> PanelRow
     if wall.len() < t.0 as usize {
         return call_refused(base::DOES_NOT_FIT);
     }
-    if 1000000 < t.0 {
+    if LONGEST_SESSION < t.0 {
         return call_refused(base::DOES_NOT_FIT);
     }
     let lines = held.lines;

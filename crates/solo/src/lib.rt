@@ -17,12 +17,13 @@ use base::Refusal;
 use rules::Line;
 use rules::OwnTick;
 use rules::Refused;
+use rules::TASKS_ALLOWED;
 use rules::Table;
 use rules::Verdict;
 use rules::WallTick;
 
 // Stands in a part where no task plays.
-const NOBODY: usize = 255;
+const NOBODY: usize = rules::NOBODY as usize;
 // A release point that no own tick reaches.
 const NEVER: u32 = 4294967295;
 
@@ -32,7 +33,7 @@ struct Player {
     next: usize,
     point: OwnTick,
     // What each task was asked and has not played.
-    left: [u32; 8],
+    left: [u32; TASKS_ALLOWED],
 }
 
 // An entry is released at due of its wall tick, which is converted here and nowhere again.
@@ -57,7 +58,7 @@ fn point_of(log: &[u8], line: Line, i: usize) -> OwnTick
 }
 
 // The first task with something left to play; nobody, with none.
-fn first_left(left: [u32; 8], tasks: usize) -> usize
+fn first_left(left: [u32; TASKS_ALLOWED], tasks: usize) -> usize
     requires { ⌜ tasks ≤ 8 ⌝ }
     ensures { λ r. ⌜ r ≡ page.firstThat (λ k. ltb 0 (getD left k 0)) tasks 0 ⌝ }
 {
@@ -123,7 +124,7 @@ fn write_part(log: &[u8], booth: usize, line: Line, n: OwnTick, part: &mut [u8])
     ensures { λ r. ⌜ now (part .exit) ≡ written 0 (page.solo (lineHeld line) (ownIn (now (log .entry)) booth) (n .0)) (now (part .entry)) ⌝ }
 {
     let point = point_of(log, line, 0);
-    let left = [0u32; 8];
+    let left = [0u32; TASKS_ALLOWED];
     let mut player = Player {
         next: 0,
         point,
