@@ -29,8 +29,8 @@ unfolding
     MarkedCases.tableWith MarkedCases.audition MarkedCases.logOf MarkedCases.entryOf MarkedCases.auditionLog MarkedCases.otherLog MarkedCases.lent
     Bytes.bigEndian Bytes.numberAt
     Refusals.refusal Refusals.refuseIf Refusals.firstFault
-    BoothTable.no-line BoothTable.tableN BoothTable.headerChecks BoothTable.jobsAt BoothTable.recordL BoothTable.recordEnd BoothTable.lineAt
-    BoothTable.lengthAllowed BoothTable.someZero BoothTable.lineChecks BoothTable.recordChecks BoothTable.withLine BoothTable.readRecords BoothTable.readLines
+    BoothTable.no-line BoothTable.tableN BoothTable.headerChecks BoothTable.jobsAt BoothTable.recordL BoothTable.recordEnd BoothTable.lineAt BoothTable.placedAt
+    BoothTable.lengthAllowed BoothTable.someZero BoothTable.lineChecks BoothTable.recordChecks BoothTable.withPlaced BoothTable.readRecords BoothTable.readLines
     Admission.roundedUp Admission.askedAbove Admission.someUpTo Admission.passes Admission.firstFailing Admission.readTable
     ArrivalLog.logN ArrivalLog.logH ArrivalLog.headChecks ArrivalLog.horizonChecks ArrivalLog.entryAt ArrivalLog.longestJobs ArrivalLog.entryChecks
     ArrivalLog.withEntry ArrivalLog.readEntries ArrivalLog.withHorizon ArrivalLog.readLog
@@ -64,7 +64,7 @@ unfolding sessions lines entry Session.ownEntries
 same-row =
     let n = min (clockOf m1 1) (clockOf m2 1) in
     sym (take-all n (rowOf m1 1) (omega (arith, clocks, counted-once .row-length m1 1 (there .0))))
-    ∙ rows-agree .rows m1 m2 1 1 (there .0) (there .1) (refl, refl) refl
+    ∙ rows-agree .rows m1 m2 1 1 (there .0) (there .1) refl refl
     ∙ take-all n (rowOf m2 1) (omega (arith, clocks, counted-once .row-length m2 1 (there .1)))
 
 pub the-audition : TheAudition

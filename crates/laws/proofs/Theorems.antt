@@ -11,7 +11,7 @@ use Rattle.rules.specs.ArrivalLog.{Entry}
 use Rattle.rules.specs.Moves.{nobody}
 use Rattle.rules.specs.Session.{count, settledAt}
 use Rattle.rules.specs.SoloPart.{solo}
-use Rattle.laws.specs.Statements.{GoodEntry, Accepted, outcome, booths, ticks, lineOf, entriesOf, clockOf, rowOf, settledOf, no-entry, WhatIsAccepted, Opening, SameLine, asks, Agreement, NoLag, total, demandOf, CountedOnce, Untouched, Pinned}
+use Rattle.laws.specs.Statements.{GoodEntry, Accepted, outcome, booths, ticks, lineOf, entriesOf, clockOf, rowOf, settledOf, no-entry, WhatIsAccepted, Opening, asks, Agreement, NoLag, total, demandOf, CountedOnce, Untouched, Pinned}
 use Rattle.laws.proofs.Entries.{Sorted}
 use Rattle.laws.proofs.Readers.{all-at}
 use Rattle.laws.proofs.Clocks.{whole-periods, never-ahead, never-behind}
@@ -72,12 +72,13 @@ rows-agree = record { rows = λ s z i j h k l e. agree s z i j h k l e }
     part : (s : Accepted) (i : ℕ) → i < booths s → (n : ℕ) → n ≤ clockOf s i → take n (rowOf s i) ≡ solo (lineOf s i) (entriesOf s i) n
     part s i h n k = ap (take n) (row-opens s i h) ∙ take-solo (lineOf s i) (entriesOf s i) n (clockOf s i) k
 
-    agree : (s z : Accepted) (i j : ℕ) → i < booths s → j < booths z → SameLine (lineOf s i) (lineOf z j) → asks (entriesOf s i) ≡ asks (entriesOf z j)
+    agree : (s z : Accepted) (i j : ℕ) → i < booths s → j < booths z → lineOf s i ≡ lineOf z j → asks (entriesOf s i) ≡ asks (entriesOf z j)
         → take (min (clockOf s i) (clockOf z j)) (rowOf s i) ≡ take (min (clockOf s i) (clockOf z j)) (rowOf z j)
     agree s z i j h k l e =
         let n = min (clockOf s i) (clockOf z j) in
         part s i h n (omega arith)
-        ∙ solo-alike (lineOf s i) (lineOf z j) l (entriesOf s i) (entriesOf z j) e n
+        ∙ solo-alike (lineOf s i) (entriesOf s i) (entriesOf z j) e n
+        ∙ ap (λ m. solo m (entriesOf z j) n) l
         ∙ sym (part z j k n (omega arith))
 
 pub no-lag : NoLag

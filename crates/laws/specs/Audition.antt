@@ -18,8 +18,8 @@ use Rattle.laws.specs.Statements.{Accepted, rowOf, settledOf}
 
 unfoldable pub lines : List Line
 lines =
-    record { promise = record { period = 5; allowance = 2 }; longest = 2 ∷ []; start = 3 }
-    ∷ record { promise = record { period = 10; allowance = 4 }; longest = 3 ∷ 4 ∷ []; start = 10 }
+    record { promise = record { period = 5; allowance = 2 }; longest = 2 ∷ [] }
+    ∷ record { promise = record { period = 10; allowance = 4 }; longest = 3 ∷ 4 ∷ [] }
     ∷ []
 
 unfoldable pub entry : ℕ → ℕ → ℕ → ℕ → Entry
@@ -32,8 +32,8 @@ unfolding
     MarkedCases.tableWith audition MarkedCases.logOf MarkedCases.entryOf auditionLog otherLog lent
     Bytes.bigEndian Bytes.numberAt Bytes.written
     Refusals.refusal Refusals.refuseIf Refusals.firstFault Verdicts.accepted Verdicts.refusedAs
-    BoothTable.no-line BoothTable.tableN BoothTable.headerChecks BoothTable.jobsAt BoothTable.recordL BoothTable.recordEnd BoothTable.lineAt
-    BoothTable.lengthAllowed BoothTable.someZero BoothTable.lineChecks BoothTable.recordChecks BoothTable.withLine BoothTable.readRecords BoothTable.readLines
+    BoothTable.no-line BoothTable.tableN BoothTable.headerChecks BoothTable.jobsAt BoothTable.recordL BoothTable.recordEnd BoothTable.lineAt BoothTable.placedAt
+    BoothTable.lengthAllowed BoothTable.someZero BoothTable.lineChecks BoothTable.recordChecks BoothTable.withPlaced BoothTable.readRecords BoothTable.readLines
     Admission.roundedUp Admission.askedAbove Admission.someUpTo Admission.passes Admission.firstFailing Admission.readTable
     ArrivalLog.logN ArrivalLog.logH ArrivalLog.headChecks ArrivalLog.horizonChecks ArrivalLog.entryAt ArrivalLog.longestJobs ArrivalLog.entryChecks
     ArrivalLog.withEntry ArrivalLog.readEntries ArrivalLog.withHorizon ArrivalLog.readLog
