@@ -16,7 +16,7 @@ use Rattle.rules.specs.Session
 use Rattle.rules.specs.SoloPart
 use Rattle.rules.specs.SoloPart.{solo}
 use Rattle.rules.specs.MarkedCases
-use Rattle.laws.specs.Statements.{booths, lineOf, entriesOf, clockOf, rowOf, settledOf}
+use Rattle.laws.specs.Statements.{booths, lineOf, entriesOf, clockOf, rowOf, settledOf, ThereAt}
 use Rattle.laws.specs.Audition.{lines, entry, sessions, m1, m2, TheAudition}
 use Rattle.laws.proofs.Opening.{length-solo}
 use Rattle.laws.proofs.Theorems.{rows-open, rows-agree, no-lag, counted-once}
@@ -47,6 +47,10 @@ one-period : length ((settledOf m1 10 1) .row) ≡ 4
 unfolding sessions lines
 one-period = no-lag .whole-periods m1 1 (there .0) 1
 
+there-then : ThereAt m1 1 10 4
+unfolding sessions lines
+there-then = no-lag .bytes-at-periods m1 1 (there .0) 1 (omega arith)
+
 first-four : (settledOf m1 10 1) .row ≡ 1 ∷ 1 ∷ 0 ∷ 1 ∷ []
 unfolding sessions lines entry Due.due Due.releasePoint Session.ownEntries Session.count SoloPart.asked SoloPart.firstThat solo
 first-four =
@@ -67,4 +71,4 @@ same-row =
     ∙ take-all n (rowOf m2 1) (omega (arith, clocks, counted-once .row-length m2 1 (there .1)))
 
 pub the-audition : TheAudition
-the-audition = record { one-period = one-period; first-four = first-four; whole-row = whole-row; same-row = same-row }
+the-audition = record { one-period = one-period; there-then = there-then; first-four = first-four; whole-row = whole-row; same-row = same-row }

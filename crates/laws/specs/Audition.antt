@@ -13,7 +13,7 @@ use Rattle.rules.specs.Admission
 use Rattle.rules.specs.Session
 use Rattle.rules.specs.MarkedCases
 use Rattle.rules.specs.MarkedCases.{audition, auditionLog, otherLog, lent}
-use Rattle.laws.specs.Statements.{Accepted, rowOf, settledOf}
+use Rattle.laws.specs.Statements.{Accepted, rowOf, settledOf, ThereAt}
 
 unfoldable pub lines : List Line
 lines =
@@ -71,6 +71,8 @@ m2 = sessions .1
 pub record TheAudition : Type 0 where
   -- no lag: at wall tick 10, one whole period of booth 1, its row is 4 own ticks long
   pub one-period : length ((settledOf m1 10 1) .row) ≡ 4
+  -- and these are the first 4 bytes of the row that is answered
+  pub there-then : ThereAt m1 1 10 4
   -- opening: it is the first 4 of its solo part, 1101
   pub first-four : (settledOf m1 10 1) .row ≡ 1 ∷ 1 ∷ 0 ∷ 1 ∷ []
   -- opening at the end: the row that is answered is 1101..
