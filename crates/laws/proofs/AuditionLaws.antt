@@ -5,38 +5,20 @@ use Prim.Native.Nat.{_<_, min}
 use native.Mathlib.Omega.{arith}
 use lib.ListN.{length}
 use lib.Seq.{take-all}
-use Rattle.rules.specs.Bytes
-use Rattle.rules.specs.Refusals
-use Rattle.rules.specs.BoothTable
-use Rattle.rules.specs.ArrivalLog
-use Rattle.rules.specs.Admission
 use Rattle.rules.specs.Due
-use Rattle.rules.specs.Moves
 use Rattle.rules.specs.Session
 use Rattle.rules.specs.SoloPart
 use Rattle.rules.specs.SoloPart.{solo}
 use Rattle.rules.specs.MarkedCases
 use Rattle.laws.specs.Statements.{booths, lineOf, entriesOf, clockOf, rowOf, settledOf, ThereAt}
+use Rattle.laws.specs.Computing.{computing}
 use Rattle.laws.specs.Audition.{lines, entry, sessions, m1, m2, TheAudition}
 use Rattle.laws.proofs.Opening.{length-solo}
 use Rattle.laws.proofs.Theorems.{rows-open, rows-agree, no-lag, counted-once}
 
 -- the final own clocks that are answered for booth 1
 clocks : (clockOf m1 1 ≡ 6) × (clockOf m2 1 ≡ 6)
-unfolding
-    sessions lines entry
-    MarkedCases.tableWith MarkedCases.audition MarkedCases.logOf MarkedCases.entryOf MarkedCases.auditionLog MarkedCases.otherLog MarkedCases.lent
-    Bytes.bigEndian Bytes.numberAt
-    Refusals.refusal Refusals.refuseIf Refusals.firstFault
-    BoothTable.no-line BoothTable.tableN BoothTable.headerChecks BoothTable.jobsAt BoothTable.recordL BoothTable.recordEnd BoothTable.lineAt
-    BoothTable.lengthAllowed BoothTable.someZero BoothTable.lineChecks BoothTable.recordChecks BoothTable.withLine BoothTable.readRecords BoothTable.readLines
-    Admission.roundedUp Admission.askedAbove Admission.someUpTo Admission.passes Admission.firstFailing Admission.readTable
-    ArrivalLog.logN ArrivalLog.logH ArrivalLog.headChecks ArrivalLog.horizonChecks ArrivalLog.entryAt ArrivalLog.longestJobs ArrivalLog.entryChecks
-    ArrivalLog.withEntry ArrivalLog.readEntries ArrivalLog.withHorizon ArrivalLog.readLog
-    Due.due Due.releasePoint
-    Moves.noDemand Moves.addDemand Moves.isReady Moves.addReady Moves.stillWaiting Moves.gather Moves.earlier Moves.earliestPoint Moves.moveTo
-    Moves.settleRounds Moves.settle Moves.mayWork Moves.firstTask Moves.loseOne Moves.work Moves.worker Moves.turn Moves.settleAll Moves.play Moves.playTicks
-    Session.ownEntries Session.freshBooth Session.openBooths Session.settledAt Session.bufferChecks Session.played Session.session
+unfolding computing sessions lines entry MarkedCases.tableWith MarkedCases.audition MarkedCases.logOf MarkedCases.entryOf MarkedCases.auditionLog MarkedCases.otherLog MarkedCases.lent
 clocks = (refl, refl)
 
 there : (1 < booths m1) × (1 < booths m2)
