@@ -10,7 +10,7 @@ use native.Mathlib.Omega.{arith}
 use lib.Dec.{leb}
 use lib.ListN.{length, getD, take}
 use borrow.Author.Tests.{leb-true, le-leb}
-use Rattle.rules.specs.Refusals.{Taken, taken, refused, refusal, not-admitted}
+use Rattle.base.specs.Refusals.{Taken, taken, refused, refusal, not-admitted}
 use Rattle.rules.specs.BoothTable.{Line, no-line, readLines}
 use Rattle.rules.specs.Admission.{askedAbove, someUpTo, passes, firstFailing, readTable}
 use Rattle.laws.specs.Statements.{Passes, FirstFails, Admission}

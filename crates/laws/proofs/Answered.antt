@@ -9,11 +9,12 @@ use native.Mathlib.Omega.{arith}
 use lib.ListN.{length, getD, take, drop, length-map}
 use lib.Seq.{take-append-seam}
 use borrow.Author.Tests.{ltb-false, le-ltb}
-use Rattle.rules.specs.declared.Refusal.{Refusal}
+use Rattle.base.specs.declared.Refusal.{Refusal}
 use Rattle.rules.specs.declared.Refused.{Refused}
 use Rattle.rules.specs.declared.Refused.the-variants.{Nothing, TheTable, TheLog, TheCall}
-use Rattle.rules.specs.Bytes.{written}
-use Rattle.rules.specs.Refusals.{Taken, taken, refused, refuseIf, firstFault, accepted, refusedAs}
+use Rattle.base.specs.Bytes.{written}
+use Rattle.base.specs.Refusals.{Taken, taken, refused, refuseIf, firstFault}
+use Rattle.rules.specs.Verdicts.{accepted, refusedAs}
 use Rattle.rules.specs.BoothTable.{Line, no-line}
 use Rattle.rules.specs.ArrivalLog.{Entry, Log, readLog}
 use Rattle.rules.specs.Admission.{readTable}

@@ -10,11 +10,11 @@ use native.Mathlib.Omega.{arith}
 use lib.Dec.{leb, ltb, eqb}
 use lib.ListN.{length, getD}
 use borrow.Author.Tests.{ltb-false, leb-true, leb-false, eqb-false, not-false}
-use Rattle.rules.specs.declared.Refusal.{Refusal}
-use Rattle.rules.specs.Refusals.{Taken, taken, refused, refuseIf, firstFault, refusal, not-admitted}
+use Rattle.base.specs.declared.Refusal.{Refusal}
+use Rattle.base.specs.Refusals.{Taken, taken, refused, refuseIf, firstFault, refusal, not-admitted}
 use Rattle.rules.specs.BoothTable.{Line, booths-allowed, longest-period, tableN, headerChecks, recordL, recordEnd, lineAt, lengthAllowed, lineChecks, recordChecks, withLine, readRecords, readLines}
 use Rattle.rules.specs.ArrivalLog.{Entry, Log, longest-session, entries-allowed, entry-bytes, logH, headChecks, horizonChecks, entryAt, longestJobs, entryChecks, withEntry, readEntries, withHorizon, readLog}
-use Rattle.rules.proofs.Checks.{neither}
+use Rattle.base.proofs.Checks.{neither}
 use Rattle.rules.proofs.Records.{length-jobs, allowed-range}
 use Rattle.laws.specs.Statements.{GoodLine, GoodEntry}
 use Rattle.laws.proofs.Entries.{From, Sorted}

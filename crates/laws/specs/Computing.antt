@@ -2,9 +2,11 @@
 use mathlib.Core.Path.{_≡_}
 use mathlib.Core.List.{List, []}
 use Prim.Native.Nat.{ℕ}
-use Rattle.rules.specs.Bytes
-use Rattle.rules.specs.Refusals
-use Rattle.rules.specs.Refusals.{Taken, taken, refused, accepted}
+use Rattle.base.specs.Bytes
+use Rattle.base.specs.Refusals
+use Rattle.base.specs.Refusals.{taken, refused}
+use Rattle.rules.specs.Verdicts
+use Rattle.rules.specs.Verdicts.{accepted}
 use Rattle.rules.specs.BoothTable
 use Rattle.rules.specs.BoothTable.{Line}
 use Rattle.rules.specs.ArrivalLog
@@ -22,7 +24,7 @@ use Rattle.laws.specs.Statements.{Accepted}
 unfoldable pub computing : Unit {0}
 unfolding
     Bytes.bigEndian Bytes.numberAt Bytes.written
-    Refusals.refusal Refusals.refuseIf Refusals.firstFault Refusals.accepted Refusals.refusedAs
+    Refusals.refusal Refusals.refuseIf Refusals.firstFault Verdicts.accepted Verdicts.refusedAs
     BoothTable.no-line BoothTable.tableN BoothTable.headerChecks BoothTable.jobsAt BoothTable.recordL BoothTable.recordEnd BoothTable.lineAt
     BoothTable.lengthAllowed BoothTable.someZero BoothTable.lineChecks BoothTable.recordChecks BoothTable.withLine BoothTable.readRecords BoothTable.readLines
     Admission.roundedUp Admission.askedAbove Admission.someUpTo Admission.passes Admission.firstFailing Admission.readTable

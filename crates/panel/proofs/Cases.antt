@@ -13,16 +13,17 @@ use lib.Ieee.{Float}
 use lib.ListN.{length, take, getD, length-take}
 use lib.Seq.{take-suc}
 use Rattle.rules.specs.declared.Promise.{Promise}
-use Rattle.rules.specs.declared.Refusal.{Refusal}
+use Rattle.base.specs.declared.Refusal.{Refusal}
 use Rattle.rules.specs.declared.Refused.{Refused}
 use Rattle.rules.specs.declared.Refused.the-variants.{Nothing, TheTable, TheCall}
-use Rattle.rules.specs.Refusals.{Taken, taken, refused, refuseIf, refusal, firstFault, accepted, refusedAs}
+use Rattle.base.specs.Refusals.{Taken, taken, refused, refuseIf, refusal, firstFault}
+use Rattle.rules.specs.Verdicts.{accepted, refusedAs}
 use Rattle.rules.specs.BoothTable.{Line, no-line}
 use Rattle.rules.specs.Admission.{readTable}
 use Rattle.rules.specs.Due.{due}
 use Rattle.rules.specs.Session.{count}
 use Rattle.rules.specs.Panel.{share, no-share, none-yet, below, at-ceiling, over, readingOf, panelRow, noPanel, panelChecks, panel}
-use Rattle.rules.proofs.Checks.{passed}
+use Rattle.base.proofs.Checks.{passed}
 use Rattle.rules.proofs.Counting.{count-append, count-most}
 use Rattle.panel.specs.Exact.{ExactShare, ExactAtPowers, ExactPanel}
 use Rattle.panel.proofs.Exact.{share-exact}

@@ -7,7 +7,7 @@ use lib.IntN.{pos}
 use lib.Ieee.{Float, binary64, mul, ofInt}
 use lib.Ieee.Exact.{HasValue}
 use lib.ListN.{take}
-use Rattle.rules.specs.Refusals.{accepted}
+use Rattle.rules.specs.Verdicts.{accepted}
 use Rattle.rules.specs.Session.{count}
 use Rattle.rules.specs.Panel.{share, panel}
 
