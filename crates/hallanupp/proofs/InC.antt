@@ -20,7 +20,7 @@ use Rattle.rules.specs.RowBack.{rowChecks, rowBack}
 use Rattle.rules.specs.Panel as page
 use Rattle.panel.specs.declared.PanelRow.{PanelRow}
 use Rattle.panel.specs.Shown.{shownRow}
-use Rattle.panel.proofs.Row.{Within, row-refused, row-given, row-within}
+use Rattle.rows.proofs.HandedRow.{Within, row-refused, row-given, row-within}
 use Rattle.panel.proofs.Cases.{panel-bad-table, panel-absent, panel-past, panel-long}
 use Rattle.hallanupp.specs.declared.CVerdict.{CVerdict}
 use Rattle.hallanupp.specs.declared.parts.CRow.{CRow}

@@ -50,7 +50,7 @@ pub extern "C" fn hallanupp_row_back(own: &[u8], h: usize, booth: usize, count: 
     ensures row { λ r. ⌜ r ≡ rowInC h booth count ((rowBack (now (own .entry)) h booth count) .verdict) ⌝ }
     ensures part { λ r. ⌜ take (r .count) (drop (r .start) (now (own .entry))) ≡ (rowBack (now (own .entry)) h booth count) .part ⌝ }
 {
-    let verdict = in_c(panel::row_verdict(own, h, booth, count));
+    let verdict = in_c(rows::row_verdict(own, h, booth, count));
     if verdict.refused != 0 {
         return CRow {
             verdict,

@@ -1,27 +1,20 @@
-// The panel: a booth's two shares and their reading; and a booth's own row handed back.
+// The panel: a booth's two shares and their reading.
 ghost use mathlib.Core.Path.{_≡_};
 ghost use Prim.Native.Nat.{_≤_, _<_};
 ghost use lib.ListN.{length, take};
 ghost use Rattle.rules.specs.declared.Refused.the-variants.{TheCall};
-ghost use Rattle.rules.specs.Verdicts as numbers;
-ghost use Rattle.base.specs.Refusals.{refusal, firstFault, faultOf};
+ghost use Rattle.base.specs.Refusals.{refusal};
 ghost use Rattle.rules.specs.Verdicts.{refusedAs};
 ghost use Rattle.rules.specs.Session as session;
-ghost use Rattle.rules.specs.RowBack as row;
 ghost use Rattle.rules.specs.Panel as page;
 ghost use Rattle.panel.specs.Exact.{ExactAtPowers};
 ghost use Rattle.panel.specs.Shown.{shownReading, shownRow};
-use base::Fault;
 use base::Refusal;
-use rules::BOOTHS_ALLOWED;
 use rules::LONGEST_SESSION;
 use rules::Promise;
 use rules::Refused;
 use rules::Verdict;
 use rules::WallTick;
-
-// A row has a place for every wall tick.
-const LONGEST_ROW: usize = LONGEST_SESSION as usize;
 
 // None yet, or how worked stands to due, with the share got.
 pub enum Reading {
@@ -37,62 +30,6 @@ pub struct PanelRow {
     pub promised: f64,
     pub got: f64,
     pub reading: Reading,
-}
-
-fn accepted() -> Verdict
-    ensures { λ r. ⌜ r ≡ numbers.accepted ⌝ }
-{
-    Verdict {
-        refused: Refused::Nothing,
-        refusal: Refusal {
-            number: 0,
-            place: 0,
-        },
-    }
-}
-
-// Booth, H, count, then the end, each tested before it is multiplied, so that no product is too large.
-fn row_fault(own: &[u8], h: usize, booth: usize, count: usize) -> Fault
-    ensures { λ r. ⌜ r ≡ faultOf (firstFault (row.rowChecks (now (own .entry)) h booth count)) ⌝ }
-{
-    if BOOTHS_ALLOWED <= booth {
-        return base::fault_at(base::DOES_NOT_FIT, 0);
-    }
-    if LONGEST_ROW < h {
-        return base::fault_at(base::DOES_NOT_FIT, 0);
-    }
-    if h < count {
-        return base::fault_at(base::DOES_NOT_FIT, 0);
-    }
-    if own.len() < booth * h + count {
-        return base::fault_at(base::DOES_NOT_FIT, 0);
-    }
-    Fault::Nothing
-}
-
-// Number 0 where `row_back` hands a row back, 11 where its part is empty because the call does not fit.
-pub fn row_verdict(own: &[u8], h: usize, booth: usize, count: usize) -> Verdict
-    ensures { λ r. ⌜ r ≡ (row.rowBack (now (own .entry)) h booth count) .verdict ⌝ }
-{
-    if let Fault::Found(refusal) = row_fault(own, h, booth, count) {
-        return Verdict {
-            refused: Refused::TheCall,
-            refusal,
-        };
-    }
-    accepted()
-}
-
-// The caller's own bytes, `count` of them from `booth` times `h`, or the empty part.
-pub fn row_back(own: &[u8], h: usize, booth: usize, count: usize) -> &[u8]
-    ensures { λ r. ⌜ now r ≡ (row.rowBack (now (own .entry)) h booth count) .part ⌝ }
-{
-    if let Fault::Found(_) = row_fault(own, h, booth, count) {
-        return &own[0..0];
-    }
-    let start = booth * h;
-    let end = start + count;
-    &own[start..end]
 }
 
 // One division of doubles, and nothing after it; exact where `whole` is a power of two.
@@ -137,7 +74,7 @@ fn panel_row(promise: Promise, worked: u32, t: u32) -> PanelRow
     requires { ⌜ (0 < promise .period) × (promise .allowance ≤ promise .period) ⌝ }
     ensures { λ r. ⌜ r ≡ shownRow (page.panelRow promise worked t) ⌝ }
 {
-    let verdict = accepted();
+    let verdict = rules::accepted();
     let promised = share(promise.allowance, promise.period);
     if t == 0 {
         return PanelRow {

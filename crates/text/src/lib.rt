@@ -126,7 +126,7 @@ fn booth_lines(out: &mut [u8], at: usize, answer: SessionAnswer, own: &[u8], h: 
     let mut i = 0;
     while i < n {
         let clock = clocks[i] as usize;
-        let row = panel::row_back(own, h, i, clock);
+        let row = rows::row_back(own, h, i, clock);
         next = booth_line(&mut out[..], next, i, clock, worked[i] as usize, row);
         i += 1;
     }

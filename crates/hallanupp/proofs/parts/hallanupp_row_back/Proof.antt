@@ -1,6 +1,6 @@
 -- `hallanupp_row_back` meets its contract: a row that is not refused starts where no product is too large. Assumes nothing.
 use native.Mathlib.Omega.{arith}
-use Rattle.panel.proofs.Row.{start-small}
+use Rattle.rows.proofs.HandedRow.{start-small}
 use Rattle.hallanupp.proofs.InC.{said-of, row-none, row-inside, row-there}
 use borrow.Author.Needs.{needs}
 use Rattle.hallanupp.proofs.parts.hallanupp_row_back.Statement.{statement}

@@ -1,11 +1,11 @@
--- `panel::row_verdict` meets its contract: the fault found is the verdict's. Assumes nothing.
+-- `rows::row_verdict` meets its contract: the fault found is the verdict's. Assumes nothing.
 use mathlib.Core.Path.{sym, ap, _∙_}
 use borrow.Author.Needs.{needs}
 use Rattle.rules.specs.Verdicts.{refusedAs}
 use Rattle.base.proofs.Checks.{nothing-found, fault-found}
-use Rattle.panel.proofs.Row.{row-refused, row-given}
-use Rattle.panel.proofs.row_verdict.Statement.{statement}
-use Rattle.panel.proofs.row_verdict.Tie as tie
+use Rattle.rows.proofs.HandedRow.{row-refused, row-given}
+use Rattle.rows.proofs.row_verdict.Statement.{statement}
+use Rattle.rows.proofs.row_verdict.Tie as tie
 
 row-fault-requires : tie.Need-row-fault-requires
 row-fault-requires c κs = search needs

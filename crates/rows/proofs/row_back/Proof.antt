@@ -1,13 +1,13 @@
--- `panel::row_back` meets its contract: the part from booth times H, or the empty part. Assumes nothing.
+-- `rows::row_back` meets its contract: the part from booth times H, or the empty part. Assumes nothing.
 use mathlib.Core.Path.{_≡_, sym, ap, _∙_}
 use Prim.Native.Nat.{_+_, _-_, _*_}
 use native.Mathlib.Omega.{arith}
 use borrow.Author.Needs.{needs}
 use lib.ListN.{take, drop}
 use Rattle.base.proofs.Checks.{nothing-found, fault-found}
-use Rattle.panel.proofs.Row.{start-small, row-refused, row-given, row-within}
-use Rattle.panel.proofs.row_back.Statement.{statement}
-use Rattle.panel.proofs.row_back.Tie as tie
+use Rattle.rows.proofs.HandedRow.{start-small, row-refused, row-given, row-within}
+use Rattle.rows.proofs.row_back.Statement.{statement}
+use Rattle.rows.proofs.row_back.Tie as tie
 
 row-fault-requires : tie.Need-row-fault-requires
 row-fault-requires c κs = search needs

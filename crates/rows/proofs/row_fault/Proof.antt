@@ -1,12 +1,12 @@
--- `panel::row_fault` meets its contract: each return is the first check that fails. Assumes nothing.
+-- `rows::row_fault` meets its contract: each return is the first check that fails. Assumes nothing.
 use native.Mathlib.Omega.{arith}
 use borrow.Author.Needs.{needs}
 use borrow.Author.Tests.{le-leb, lt-leb, lt-ltb, le-ltb}
 use Rattle.base.specs.Refusals.{refuseIf, firstFault, faultOf}
 use Rattle.rules.specs.RowBack.{rowChecks}
-use Rattle.panel.proofs.Row.{start-small}
-use Rattle.panel.proofs.row_fault.Statement.{statement}
-use Rattle.panel.proofs.row_fault.Tie as tie
+use Rattle.rows.proofs.HandedRow.{start-small}
+use Rattle.rows.proofs.row_fault.Statement.{statement}
+use Rattle.rows.proofs.row_fault.Tie as tie
 
 fault-at-requires : tie.Need-fault-at-requires
 fault-at-requires c κs = search needs
