@@ -10,15 +10,16 @@ ghost use Rattle.rules.specs.Session.{freshBooth};
 ghost use Rattle.rules.specs.Values.{lineHeld};
 ghost use Rattle.table.specs.Fit.{Sounds, FitLine};
 ghost use Rattle.booth.specs.Shown.{waitingAt, firstOf, shown, settledAnswer, takesNext, takenNext, wakesAt, Log, Place, Found, Looked, Steady, Fit, AfterSettle, AfterPlay, demanding, clockAt, lengthened};
+use rules::ENTRY_BYTES;
 use rules::Line;
+use rules::NOBODY;
 use rules::OwnTick;
 use rules::Promise;
+use rules::TASKS_ALLOWED;
 use rules::WallTick;
 
-// In a row: no task ran. In the wall record: no booth worked.
-pub const NOBODY: u8 = 255;
 // The tick of an entry that never comes.
-pub const NEVER: u32 = 4294967295;
+const NEVER: u32 = 4294967295;
 
 pub struct Booth {
     // Below 8, in a whole word, so that no padding is copied with the state.
@@ -33,7 +34,7 @@ pub struct Booth {
     // The first task with demand; 8 where there is none.
     pub first: usize,
     // Unplayed demand for each task.
-    pub demand: [u32; 8],
+    pub demand: [u32; TASKS_ALLOWED],
 }
 
 // What a settled booth answers.
@@ -49,10 +50,10 @@ fn next_of(log: &[u8], number: usize, from: usize) -> usize
 {
     let mut at = from;
     while at < log.len() {
-        if rules::wide(log[at + 5]) as usize == number {
+        if base::wide(log[at + 5]) as usize == number {
             return at;
         }
-        at += 9;
+        at += ENTRY_BYTES;
     }
     at
 }
@@ -69,11 +70,11 @@ fn silence(part: &mut [u8])
 }
 
 // The first task with demand; 8 where there is none.
-fn first_task(demand: [u32; 8]) -> usize
+fn first_task(demand: [u32; TASKS_ALLOWED]) -> usize
     ensures { λ r. ⌜ r ≡ firstOf demand ⌝ }
 {
     let mut k = 0;
-    while k < 8 {
+    while k < TASKS_ALLOWED {
         if 0 < demand[k] {
             return k;
         }
@@ -92,8 +93,7 @@ impl Booth {
         let line = Line {
             promise,
             tasks: 0,
-            longest: [0; 8],
-            start: 0,
+            longest: [0; TASKS_ALLOWED],
         };
         Booth {
             number: 0,
@@ -102,8 +102,8 @@ impl Booth {
             at: 0,
             tick: WallTick(NEVER),
             point: OwnTick(0),
-            first: 8,
-            demand: [0; 8],
+            first: TASKS_ALLOWED,
+            demand: [0; TASKS_ALLOWED],
         }
     }
 
@@ -121,8 +121,8 @@ impl Booth {
             at: 9,
             tick: WallTick(NEVER),
             point: OwnTick(0),
-            first: 8,
-            demand: [0; 8],
+            first: TASKS_ALLOWED,
+            demand: [0; TASKS_ALLOWED],
         };
         booth.look(log, 9)
     }
@@ -139,7 +139,7 @@ impl Booth {
             self.tick = tick;
             return self;
         }
-        let tick = WallTick(rules::number32(log, at + 1));
+        let tick = WallTick(base::number32(log, at + 1));
         self.tick = tick;
         let line = self.line;
         let promise = line.promise;
@@ -183,7 +183,7 @@ impl Booth {
         if t.0 < self.tick.0 {
             return false;
         }
-        if self.first == 8 {
+        if self.first == TASKS_ALLOWED {
             return true;
         }
         self.point.0 <= self.clock.0
@@ -198,12 +198,12 @@ impl Booth {
         ensures row { λ r. ⌜ now (row .exit) ≡ lengthened (now (row .entry)) (self .clock .0) (replicate (self .point .0 - self .clock .0) 255) ⌝ }
     {
         let at = self.at;
-        let k = rules::wide(log[at + 6]) as usize;
-        let d = rules::number16(log, at + 7);
+        let k = base::wide(log[at + 6]) as usize;
+        let d = base::number16(log, at + 7);
         let to = self.point;
         self = self.pass(row, to);
         self = self.add(k, d);
-        self = self.look(log, at + 9);
+        self = self.look(log, at + ENTRY_BYTES);
         self
     }
 
@@ -217,7 +217,7 @@ impl Booth {
         while self.takes(t) {
             self = self.take_next(log, row);
         }
-        if self.first == 8 {
+        if self.first == TASKS_ALLOWED {
             let line = self.line;
             let promise = line.promise;
             let to = rules::due(promise, t);
@@ -236,7 +236,7 @@ impl Booth {
         if self.takes(t) {
             return self.catch_up(log, row, t);
         }
-        if self.first < 8 {
+        if self.first < TASKS_ALLOWED {
             return self;
         }
         self.catch_up(log, row, t)
@@ -248,7 +248,7 @@ impl Booth {
         ensures { λ r. ⌜ ((bs row : List ℕ) → r ≡ settledAnswer (t .0) (shown bs self row)) ⌝ }
     {
         let first = self.first;
-        if first == 8 {
+        if first == TASKS_ALLOWED {
             return Chosen::Nothing;
         }
         let line = self.line;
@@ -286,7 +286,7 @@ impl Booth {
         requires { ⌜ Steady self × (self .clock .0 < 1000001) ⌝ }
         ensures { λ r. ⌜ r ≡ wakesAt self ⌝ }
     {
-        if self.first == 8 {
+        if self.first == TASKS_ALLOWED {
             return self.tick.0 as usize;
         }
         let u = self.clock.0 as usize;

@@ -8,11 +8,12 @@ use native.Mathlib.Omega.{arith}
 use borrow.Author.Tests.{lt-ltb, le-ltb, leb-true, leb-false, ltb-true, ltb-false}
 use lib.Dec.{leb, ltb, lit<}
 use lib.ListN.{length, take, drop}
-use Rattle.rules.specs.declared.Refusal.{Refusal}
+use Rattle.base.specs.declared.Refusal.{Refusal}
 use Rattle.rules.specs.declared.Refused.{Refused}
 use Rattle.rules.specs.declared.Refused.the-variants.{TheTable, TheCall}
 use Rattle.rules.specs.declared.Verdict.{Verdict}
-use Rattle.rules.specs.Refusals.{Taken, taken, refused, refusal, firstFault, accepted, refusedAs}
+use Rattle.base.specs.Refusals.{Taken, taken, refused, refusal, firstFault}
+use Rattle.rules.specs.Verdicts.{accepted, refusedAs}
 use Rattle.rules.specs.BoothTable.{Line}
 use Rattle.rules.specs.Admission.{readTable}
 use Rattle.rules.specs.RowBack.{rowChecks, rowBack}

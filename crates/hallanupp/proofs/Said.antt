@@ -2,8 +2,9 @@
 use mathlib.Core.Path.{_≡_, refl, sym, ap, _∙_}
 use mathlib.Core.List.{List}
 use Prim.Native.Nat.{ℕ}
-use Rattle.rules.specs.declared.Refusal.{Refusal}
-use Rattle.rules.specs.Refusals.{Taken, taken, refused, refusal, accepted, refusedAs}
+use Rattle.base.specs.declared.Refusal.{Refusal}
+use Rattle.base.specs.Refusals.{Taken, taken, refused, refusal}
+use Rattle.rules.specs.Verdicts.{accepted, refusedAs}
 use Rattle.rules.specs.BoothTable.{Line}
 use Rattle.rules.specs.ArrivalLog.{Log, readLog}
 use Rattle.rules.specs.Admission.{readTable}

@@ -1,11 +1,12 @@
 -- The verdict on a table, on a table with a log, and how a verdict stands in a C struct.
 use mathlib.Core.List.{List}
 use Prim.Native.Nat.{ℕ}
-use Rattle.rules.specs.declared.Refusal.{Refusal}
+use Rattle.base.specs.declared.Refusal.{Refusal}
 use Rattle.rules.specs.declared.Refused.{Refused}
 use Rattle.rules.specs.declared.Refused.the-variants.{Nothing, TheTable, TheLog, TheCall}
 use Rattle.rules.specs.declared.Verdict.{Verdict}
-use Rattle.rules.specs.Refusals.{Taken, taken, refused, accepted, refusedAs}
+use Rattle.base.specs.Refusals.{Taken, taken, refused}
+use Rattle.rules.specs.Verdicts.{accepted, refusedAs}
 use Rattle.rules.specs.ArrivalLog.{readLog}
 use Rattle.rules.specs.Admission.{readTable}
 use Rattle.hallanupp.specs.declared.CVerdict.{CVerdict}

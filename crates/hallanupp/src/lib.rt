@@ -1,7 +1,7 @@
 // The C boundary: thin functions over the proved readers. include/hallanupp.h documents each for its callers.
 ghost use mathlib.Core.Path.{_≡_};
 ghost use Rattle.hallanupp.specs.Verdicts.{tableVerdict, filesVerdict, inC, refusedInC};
-use rules::Refusal;
+use base::Refusal;
 
 mod panels;
 mod parts;

@@ -5,7 +5,13 @@ ghost use Rattle.hallanupp.specs.PanelInC.{panelInC, readingInC, heldTic
 use crate::CVerdict;
 use crate::parts::in_c;
 use panel::Reading;
+use rules::LONGEST_SESSION;
 use rules::WallTick;
+
+// The last tick that a panel is read at.
+const LONGEST_TICK: usize = LONGEST_SESSION as usize;
+// A tick that is refused, as all behind it are.
+const PAST_ALL_TICKS: u32 = LONGEST_SESSION + 1;
 
 // The two shares; the reading is 0 none yet, 1 below, 2 at the ceiling, 3 over.
 #[repr(C)]
@@ -31,8 +37,8 @@ fn reading_number(reading: Reading) -> u32
 fn held_tick(t: usize) -> WallTick
     ensures { λ r. ⌜ r .0 ≡ heldTick t ⌝ }
 {
-    if 1000000 < t {
-        return WallTick(1000001);
+    if LONGEST_TICK < t {
+        return WallTick(PAST_ALL_TICKS);
     }
     WallTick(t as u32)
 }

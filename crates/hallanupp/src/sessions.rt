@@ -5,14 +5,15 @@ ghost use Rattle.session.specs.Answer.{answered};
 ghost use Rattle.hallanupp.specs.SessionInC.{sessionInC};
 use crate::CVerdict;
 use crate::parts::in_c;
+use rules::BOOTHS_ALLOWED;
 
 // The verdict, the number of booths, each booth's final own clock and worked ticks, and the idle ticks; zeros behind the last booth.
 #[repr(C)]
 pub struct CSession {
     pub verdict: CVerdict,
     pub booths: u64,
-    pub clocks: [u32; 8],
-    pub worked: [u32; 8],
+    pub clocks: [u32; BOOTHS_ALLOWED],
+    pub worked: [u32; BOOTHS_ALLOWED],
     pub idle: u32,
 }
 

@@ -6,8 +6,8 @@ use mathlib.Core.List.{List, [], _∷_}
 use mathlib.Core.Option.{none, some}
 use Prim.Native.Nat.{ℕ}
 use native.Mathlib.Omega.{arith}
-use Rattle.rules.specs.declared.Refusal.{Refusal}
-use Rattle.rules.specs.Refusals.{Taken, taken, refused, Check, firstFault}
+use Rattle.base.specs.declared.Refusal.{Refusal}
+use Rattle.base.specs.Refusals.{Taken, taken, refused, Check, firstFault}
 
 pub taken-or-refused : {A : Type 0} (a : A) (r : Refusal) → refused r ≡ taken a → ⊥
 taken-or-refused a r e = let z : _≡_ {A = ℕ} 0 1 = cc in omega arith

@@ -11,7 +11,7 @@ use native.Mathlib.Numerals.{add-one}
 use native.Mathlib.Omega.{arith}
 use lib.ListN.{length, getD, take, drop, set, replicate, length-append, length-replicate, length-set, length-map}
 use lib.Seq.{getD-set-same, getD-set-other, ext-getD, take-append-seam}
-use Rattle.rules.specs.Bytes.{written}
+use Rattle.base.specs.Bytes.{written}
 use Rattle.rules.specs.BoothTable.{Line, no-line}
 use Rattle.rules.specs.ArrivalLog.{Entry}
 use Rattle.rules.specs.Due.{due}

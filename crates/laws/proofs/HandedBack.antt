@@ -6,7 +6,8 @@ use native.Mathlib.Nat.{mul-le-mul-right}
 use native.Mathlib.Omega.{arith}
 use lib.ListN.{length, take, drop}
 use borrow.Author.Tests.{le-ltb, lt-leb}
-use Rattle.rules.specs.Refusals.{refuseIf, firstFault, accepted}
+use Rattle.base.specs.Refusals.{refuseIf, firstFault}
+use Rattle.rules.specs.Verdicts.{accepted}
 use Rattle.rules.specs.RowBack.{rowChecks, rowBack}
 use Rattle.laws.specs.Statements.{Accepted, HandedBack, outcome, booths, ticks, lineOf, clockOf, rowOf}
 use Rattle.laws.proofs.DueLaws.{due-at-most}

@@ -7,7 +7,7 @@ use native.Mathlib.Nat.{add-zero, add-suc, suc-add, not-suc-le-zero, le-of-suc-l
 use native.Mathlib.Omega.{arith}
 use lib.ListN.{length, getD, take, drop, length-append, length-take, length-drop, take-append-drop, List·getD-append}
 use lib.Seq.{getD-take, getD-drop, getD-append-add, length-take-le, take-append-le, drop-append-le, take-append-seam, drop-at}
-use Rattle.rules.specs.Bytes.{written}
+use Rattle.base.specs.Bytes.{written}
 use Rattle.rules.specs.Moves.{Booth}
 use Rattle.rules.specs.Session.{writeRows}
 

@@ -8,7 +8,7 @@ use native.Mathlib.Decide.{decLe}
 use native.Mathlib.Omega.{arith}
 use lib.ListN.{length, getD, take, drop, set, length-take, length-drop, take-append-drop, List·getD-append}
 use lib.Seq.{getD-append-add, length-take-le, drop-append-le, drop-drop, take-take, ext-getD}
-use Rattle.rules.specs.Bytes.{written}
+use Rattle.base.specs.Bytes.{written}
 use Rattle.rules.specs.BoothTable.{Line}
 use Rattle.rules.specs.ArrivalLog.{Entry}
 use Rattle.rules.specs.Moves.{Booth}

@@ -7,11 +7,12 @@ use native.Mathlib.Nat.{mul-le-mul-left, mul-le-mul-right}
 use native.Mathlib.Omega.{arith}
 use borrow.Author.Tests.{leb-false, ltb-false}
 use lib.ListN.{length, take, drop}
-use Rattle.rules.specs.declared.Refusal.{Refusal}
+use Rattle.base.specs.declared.Refusal.{Refusal}
 use Rattle.rules.specs.declared.Refused.the-variants.{TheCall}
-use Rattle.rules.specs.Refusals.{firstFault, accepted, refusedAs}
+use Rattle.base.specs.Refusals.{firstFault}
+use Rattle.rules.specs.Verdicts.{accepted, refusedAs}
 use Rattle.rules.specs.RowBack.{rowChecks, rowBack}
-use Rattle.rules.proofs.Checks.{passed}
+use Rattle.base.proofs.Checks.{passed}
 
 -- booth 7 of the longest session starts at 7,000,000
 pub start-small : (booth H : ℕ) → booth < 8 → H ≤ 1000000 → booth * H ≤ 7000000

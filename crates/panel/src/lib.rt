@@ -3,19 +3,25 @@ ghost use mathlib.Core.Path.{_≡_};
 ghost use Prim.Native.Nat.{_≤_, _<_};
 ghost use lib.ListN.{length, take};
 ghost use Rattle.rules.specs.declared.Refused.the-variants.{TheCall};
-ghost use Rattle.rules.specs.Refusals as numbers;
-ghost use Rattle.rules.specs.Refusals.{refusal, refusedAs, firstFault, faultOf};
+ghost use Rattle.rules.specs.Verdicts as numbers;
+ghost use Rattle.base.specs.Refusals.{refusal, firstFault, faultOf};
+ghost use Rattle.rules.specs.Verdicts.{refusedAs};
 ghost use Rattle.rules.specs.Session as session;
 ghost use Rattle.rules.specs.RowBack as row;
 ghost use Rattle.rules.specs.Panel as page;
 ghost use Rattle.panel.specs.Exact.{ExactAtPowers};
 ghost use Rattle.panel.specs.Shown.{shownReading, shownRow};
-use rules::Fault;
+use base::Fault;
+use base::Refusal;
+use rules::BOOTHS_ALLOWED;
+use rules::LONGEST_SESSION;
 use rules::Promise;
-use rules::Refusal;
 use rules::Refused;
 use rules::Verdict;
 use rules::WallTick;
+
+// A row has a place for every wall tick.
+const LONGEST_ROW: usize = LONGEST_SESSION as usize;
 
 // None yet, or how worked stands to due, with the share got.
 pub enum Reading {
@@ -49,17 +55,17 @@ fn accepted() -> Verdict
 fn row_fault(own: &[u8], h: usize, booth: usize, count: usize) -> Fault
     ensures { λ r. ⌜ r ≡ faultOf (firstFault (row.rowChecks (now (own .entry)) h booth count)) ⌝ }
 {
-    if 8 <= booth {
-        return rules::fault_at(11, 0);
+    if BOOTHS_ALLOWED <= booth {
+        return base::fault_at(base::DOES_NOT_FIT, 0);
     }
-    if 1000000 < h {
-        return rules::fault_at(11, 0);
+    if LONGEST_ROW < h {
+        return base::fault_at(base::DOES_NOT_FIT, 0);
     }
     if h < count {
-        return rules::fault_at(11, 0);
+        return base::fault_at(base::DOES_NOT_FIT, 0);
     }
     if own.len() < booth * h + count {
-        return rules::fault_at(11, 0);
+        return base::fault_at(base::DOES_NOT_FIT, 0);
     }
     Fault::Nothing
 }
@@ -106,7 +112,7 @@ fn worked_ticks(wall: &[u8], booth: usize, t: u32) -> u32
     let mut worked: u32 = 0;
     let mut at: usize = 0;
     while at < end {
-        if rules::wide(wall[at]) as usize == booth {
+        if base::wide(wall[at]) as usize == booth {
             worked += 1;
         }
         at += 1;
@@ -182,13 +188,13 @@ pub fn panel(table: &[u8], wall: &[u8], booth: usize, t: WallTick) -> PanelRow
     }
     let held = answer.table;
     if held.booths <= booth {
-        return call_refused(9);
+        return call_refused(base::NO_SUCH_BOOTH_OR_TASK);
     }
     if wall.len() < t.0 as usize {
-        return call_refused(11);
+        return call_refused(base::DOES_NOT_FIT);
     }
-    if 1000000 < t.0 {
-        return call_refused(11);
+    if LONGEST_SESSION < t.0 {
+        return call_refused(base::DOES_NOT_FIT);
     }
     let lines = held.lines;
     let line = lines[booth];

@@ -5,7 +5,7 @@ ghost use Prim.Native.Nat.{_+_, _≤_};
 ghost use lib.ListN.{length};
 ghost use Rattle.rules.specs.Desk as page;
 ghost use Rattle.printing.specs.Put.{Put};
-use rules::Refusal;
+use base::Refusal;
 
 // Bytes as they are.
 fn put(out: &mut [u8], at: usize, bytes: &[u8]) -> usize

@@ -5,9 +5,10 @@ use mathlib.Core.Option.{Option, none, some}
 use Prim.Native.Nat.{ℕ, _+_, _*_, _≤_, _<_}
 use borrow.Author.Tests.{lt-ltb, le-ltb}
 use lib.ListN.{length}
-use Rattle.rules.specs.declared.Refusal.{Refusal}
+use Rattle.base.specs.declared.Refusal.{Refusal}
 use Rattle.rules.specs.declared.Refused.the-variants.{TheTable, TheLog, TheCall}
-use Rattle.rules.specs.Refusals.{taken, refused, refusal, refuseIf, firstFault, refusedAs}
+use Rattle.base.specs.Refusals.{taken, refused, refusal, refuseIf, firstFault}
+use Rattle.rules.specs.Verdicts.{refusedAs}
 use Rattle.rules.specs.BoothTable.{Line}
 use Rattle.rules.specs.ArrivalLog.{Log, readLog}
 use Rattle.rules.specs.Admission.{readTable}

@@ -8,8 +8,9 @@ use lib.ListN.{length, getD, take, set, length-map, length-replicate}
 use lib.Seq.{ext-getD, getD-take, length-take-le}
 use Rattle.rules.specs.declared.Table.{Table}
 use Rattle.rules.specs.declared.Refused.the-variants.{Nothing}
-use Rattle.rules.specs.Bytes.{written}
-use Rattle.rules.specs.Refusals.{refusal, accepted}
+use Rattle.base.specs.Bytes.{written}
+use Rattle.base.specs.Refusals.{refusal}
+use Rattle.rules.specs.Verdicts.{accepted}
 use Rattle.rules.specs.BoothTable.{no-line}
 use Rattle.rules.specs.ArrivalLog.{Entry, Log}
 use Rattle.rules.specs.Moves.{Booth, nobody}
@@ -21,7 +22,7 @@ use Rattle.laws.proofs.Course.{nobooth, Course, Closing, begins, closes, closed
 use Rattle.booth.specs.declared.Booth.{Booth as HeldBooth}
 use Rattle.booth.specs.Shown.{shown}
 use Rattle.rules.specs.declared.Verdict.{Verdict}
-use Rattle.rules.specs.Refusals.{taken}
+use Rattle.base.specs.Refusals.{taken}
 use Rattle.rules.specs.ArrivalLog.{readLog}
 use Rattle.rules.specs.Admission.{readTable}
 use Rattle.rules.specs.Session.{Outcome, nothingDone, session}

@@ -3,14 +3,17 @@ ghost use mathlib.Core.Path.{_≡_};
 ghost use Prim.Native.Nat.{_+_, _*_, _≤_, _<_};
 ghost use lib.ListN.{length};
 ghost use Rattle.rules.specs.declared.Refused.the-variants.{TheCall};
-ghost use Rattle.rules.specs.Refusals.{refusal, refusedAs};
+ghost use Rattle.base.specs.Refusals.{refusal};
+ghost use Rattle.rules.specs.Verdicts.{refusedAs};
 ghost use Rattle.rules.specs.Session as page;
 ghost use Rattle.rules.specs.Values.{linesHeld};
 ghost use Rattle.session.specs.Answer as said;
 ghost use Rattle.session.specs.Running.{logOf, Opening, Opened, Ready, NextAwake, Ran, Ended, Closed, Clocks, Playable};
+use base::Refusal;
 use booth::Booth;
 use booth::Chosen;
-use rules::Refusal;
+use rules::BOOTHS_ALLOWED;
+use rules::NOBODY;
 use rules::Refused;
 use rules::Table;
 use rules::Verdict;
@@ -20,20 +23,20 @@ use rules::WallTick;
 pub struct SessionAnswer {
     pub verdict: Verdict,
     pub booths: usize,
-    pub clocks: [u32; 8],
-    pub worked: [u32; 8],
+    pub clocks: [u32; BOOTHS_ALLOWED],
+    pub worked: [u32; BOOTHS_ALLOWED],
     pub idle: u32,
 }
 
 // The booths after the last wall tick, and what was counted on the way.
 pub struct Stage {
-    pub booths: [Booth; 8],
-    pub worked: [u32; 8],
+    pub booths: [Booth; BOOTHS_ALLOWED],
+    pub worked: [u32; BOOTHS_ALLOWED],
     pub idle: u32,
 }
 
 impl Stage {
-    fn after(booths: [Booth; 8], worked: [u32; 8], idle: u32) -> Self
+    fn after(booths: [Booth; BOOTHS_ALLOWED], worked: [u32; BOOTHS_ALLOWED], idle: u32) -> Self
         ensures { λ r. ⌜ r ≡ record { booths = booths; worked = worked; idle = idle } ⌝ }
     {
         Stage {
@@ -45,13 +48,13 @@ impl Stage {
 }
 
 // Every booth of the table before wall tick 0.
-fn open_all(table: Table, log: &[u8]) -> [Booth; 8]
+fn open_all(table: Table, log: &[u8]) -> [Booth; BOOTHS_ALLOWED]
     requires { ⌜ Opening table (now log) ⌝ }
     ensures { λ r. ⌜ Opened table (now (log .entry)) r ⌝ }
 {
     let lines = table.lines;
     let n = table.booths;
-    let mut booths = [Booth::absent(); 8];
+    let mut booths = [Booth::absent(); BOOTHS_ALLOWED];
     let mut j = 0;
     while j < n {
         let line = lines[j];
@@ -62,7 +65,7 @@ fn open_all(table: Table, log: &[u8]) -> [Booth; 8]
 }
 
 // The first booth from `from` on that is awake at `t`; n where all of them sleep.
-fn next_awake(wakes: &[usize; 8], n: usize, from: usize, t: usize) -> usize
+fn next_awake(wakes: &[usize; BOOTHS_ALLOWED], n: usize, from: usize, t: usize) -> usize
     requires { ⌜ (from ≤ n) × (n ≤ 8) ⌝ }
     ensures { λ r. ⌜ NextAwake (now (wakes .entry)) n from t r ⌝ }
 {
@@ -77,20 +80,27 @@ fn next_awake(wakes: &[usize; 8], n: usize, from: usize, t: usize) -> usize
 }
 
 // Wall tick after wall tick, booth after booth: i booths were asked at t in vain. A booth that cannot work before it wakes is passed over.
-fn run(start: [Booth; 8], n: usize, log: &[u8], wall: &mut [u8], own: &mut [u8], h: usize) -> Stage
+fn run(
+    start: [Booth; BOOTHS_ALLOWED],
+    n: usize,
+    log: &[u8],
+    wall: &mut [u8],
+    own: &mut [u8],
+    h: usize,
+) -> Stage
     requires { ⌜ Ready n h start (now log) (now wall) (now own) ⌝ }
     ensures { λ r. ⌜ Ran n h start (now (log .entry)) (now (wall .entry)) (now (own .entry)) r (now (wall .exit)) (now (own .exit)) ⌝ }
 {
     let mut booths = start;
-    let mut wakes = [0usize; 8];
-    let mut worked = [0u32; 8];
+    let mut wakes = [0usize; BOOTHS_ALLOWED];
+    let mut worked = [0u32; BOOTHS_ALLOWED];
     let mut idle: u32 = 0;
     let mut t = 0;
     let mut i = 0;
     while t < h {
         i = next_awake(&wakes, n, i, t);
         if i == n {
-            wall[t] = booth::NOBODY;
+            wall[t] = NOBODY;
             idle += 1;
             t += 1;
             i = 0;
@@ -118,7 +128,13 @@ fn run(start: [Booth; 8], n: usize, log: &[u8], wall: &mut [u8], own: &mut [u8],
 }
 
 // After the last wall tick all booths settle at H.
-fn close(played: [Booth; 8], n: usize, log: &[u8], own: &mut [u8], h: usize) -> [Booth; 8]
+fn close(
+    played: [Booth; BOOTHS_ALLOWED],
+    n: usize,
+    log: &[u8],
+    own: &mut [u8],
+    h: usize,
+) -> [Booth; BOOTHS_ALLOWED]
     requires { ⌜ Ended n h played (now log) (now own) ⌝ }
     ensures { λ r. ⌜ Closed n h played (now (log .entry)) (now (own .entry)) r (now (own .exit)) ⌝ }
 {
@@ -135,11 +151,11 @@ fn close(played: [Booth; 8], n: usize, log: &[u8], own: &mut [u8], h: usize) -> 
 }
 
 // Each booth's final own clock; 0 where the table has no booth.
-fn clocks_of(booths: [Booth; 8], n: usize) -> [u32; 8]
+fn clocks_of(booths: [Booth; BOOTHS_ALLOWED], n: usize) -> [u32; BOOTHS_ALLOWED]
     requires { ⌜ (n ≤ 8) × (length booths ≡ 8) ⌝ }
     ensures { λ r. ⌜ Clocks n booths r ⌝ }
 {
-    let mut clocks = [0u32; 8];
+    let mut clocks = [0u32; BOOTHS_ALLOWED];
     let mut i = 0;
     while i < n {
         let b = booths[i];
@@ -186,8 +202,8 @@ fn nothing_done(refused: Refused, refusal: Refusal) -> SessionAnswer
     SessionAnswer {
         verdict,
         booths: 0,
-        clocks: [0; 8],
-        worked: [0; 8],
+        clocks: [0; BOOTHS_ALLOWED],
+        worked: [0; BOOTHS_ALLOWED],
         idle: 0,
     }
 }
@@ -211,7 +227,7 @@ pub fn session(table: &[u8], log: &[u8], wall: &mut [u8], own: &mut [u8]) -> Ses
     }
     let h = logged.horizon as usize;
     let unfit = Refusal {
-        number: 11,
+        number: base::DOES_NOT_FIT,
         place: 0,
     };
     if wall.len() < h {

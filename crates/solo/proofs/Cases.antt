@@ -5,11 +5,12 @@ use mathlib.Core.Option.{none, some}
 use Prim.Native.Nat.{ℕ, _≤_, _<_}
 use borrow.Author.Tests.{le-leb, lt-leb, lt-ltb, le-ltb, leb-false, ltb-false}
 use lib.ListN.{length, getD}
-use Rattle.rules.specs.declared.Refusal.{Refusal}
+use Rattle.base.specs.declared.Refusal.{Refusal}
 use Rattle.rules.specs.declared.Refused.the-variants.{TheTable, TheLog, TheCall}
 use Rattle.rules.specs.declared.Table.{Table as HeldTable}
-use Rattle.rules.specs.Bytes.{written}
-use Rattle.rules.specs.Refusals.{taken, refused, refusal, refuseIf, firstFault, accepted, refusedAs}
+use Rattle.base.specs.Bytes.{written}
+use Rattle.base.specs.Refusals.{taken, refused, refusal, refuseIf, firstFault}
+use Rattle.rules.specs.Verdicts.{accepted, refusedAs}
 use Rattle.rules.specs.BoothTable.{Line, no-line}
 use Rattle.rules.specs.ArrivalLog.{Log, readLog}
 use Rattle.rules.specs.Admission.{readTable}
@@ -17,7 +18,7 @@ use Rattle.rules.specs.Due.{due}
 use Rattle.rules.specs.Session.{ownEntries}
 use Rattle.rules.specs.SoloPart.{solo, soloChecks, askSolo}
 use Rattle.rules.specs.Values.{lineHeld, linesHeld, no-held-line}
-use Rattle.rules.proofs.Checks.{passed}
+use Rattle.base.proofs.Checks.{passed}
 use Rattle.table.proofs.Test.{line-in}
 
 -- ---- the promises of a table as the code holds it

@@ -6,8 +6,8 @@ use native.Mathlib.Nat.{add-zero, add-suc, suc-add}
 use native.Mathlib.Omega.{arith}
 use lib.ListN.{length, getD, length-take}
 use Rattle.rules.specs.declared.Table.{Table as HeldTable}
-use Rattle.rules.specs.Bytes.{byteAt}
-use Rattle.rules.specs.Refusals.{taken}
+use Rattle.base.specs.Bytes.{byteAt}
+use Rattle.base.specs.Refusals.{taken}
 use Rattle.rules.specs.BoothTable.{no-line}
 use Rattle.rules.specs.ArrivalLog.{Entry, Log, longestJobs, readLog}
 use Rattle.rules.specs.Due.{due}

@@ -13,7 +13,7 @@ use lib.Seq.{getD-set-same, getD-set-other, length-take-le, set-at, drop-cons, a
 use borrow.Author.Tests.{lt-ltb, le-ltb, ltb-true}
 use Rattle.rules.specs.declared.Line.{Line as HeldLine}
 use Rattle.rules.specs.declared.OwnTick.{OwnTick}
-use Rattle.rules.specs.Bytes.{written}
+use Rattle.base.specs.Bytes.{written}
 use Rattle.rules.specs.BoothTable.{Line}
 use Rattle.rules.specs.ArrivalLog.{Entry}
 use Rattle.rules.specs.Due.{releasePoint}

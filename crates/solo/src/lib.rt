@@ -4,25 +4,26 @@ ghost use mathlib.Core.List.{List};
 ghost use Prim.Native.Nat.{ℕ, _+_, _*_, _≤_, _<_};
 ghost use lib.Dec.{ltb};
 ghost use lib.ListN.{length, getD, set};
-ghost use Rattle.rules.specs.Bytes.{written};
+ghost use Rattle.base.specs.Bytes.{written};
 ghost use Rattle.rules.specs.Due.{due};
-ghost use Rattle.rules.specs.Refusals.{firstFault, faultOf};
+ghost use Rattle.base.specs.Refusals.{firstFault, faultOf};
 ghost use Rattle.rules.specs.SoloPart as page;
 ghost use Rattle.rules.specs.Values.{lineHeld, linesHeld};
 ghost use Rattle.table.specs.Fit.{FitTable, Sounds};
 ghost use Rattle.solo.specs.Alone.{Alone, WholeLog, Point, Plays, Admitted, Passed, entriesIn, ownIn, ownTick};
 use arrivals::Entry;
-use rules::Fault;
+use base::Fault;
+use base::Refusal;
 use rules::Line;
 use rules::OwnTick;
-use rules::Refusal;
 use rules::Refused;
+use rules::TASKS_ALLOWED;
 use rules::Table;
 use rules::Verdict;
 use rules::WallTick;
 
 // Stands in a part where no task plays.
-const NOBODY: usize = 255;
+const NOBODY: usize = rules::NOBODY as usize;
 // A release point that no own tick reaches.
 const NEVER: u32 = 4294967295;
 
@@ -32,7 +33,7 @@ struct Player {
     next: usize,
     point: OwnTick,
     // What each task was asked and has not played.
-    left: [u32; 8],
+    left: [u32; TASKS_ALLOWED],
 }
 
 // An entry is released at due of its wall tick, which is converted here and nowhere again.
@@ -57,7 +58,7 @@ fn point_of(log: &[u8], line: Line, i: usize) -> OwnTick
 }
 
 // The first task with something left to play; nobody, with none.
-fn first_left(left: [u32; 8], tasks: usize) -> usize
+fn first_left(left: [u32; TASKS_ALLOWED], tasks: usize) -> usize
     requires { ⌜ tasks ≤ 8 ⌝ }
     ensures { λ r. ⌜ r ≡ page.firstThat (λ k. ltb 0 (getD left k 0)) tasks 0 ⌝ }
 {
@@ -123,7 +124,7 @@ fn write_part(log: &[u8], booth: usize, line: Line, n: OwnTick, part: &mut [u8])
     ensures { λ r. ⌜ now (part .exit) ≡ written 0 (page.solo (lineHeld line) (ownIn (now (log .entry)) booth) (n .0)) (now (part .entry)) ⌝ }
 {
     let point = point_of(log, line, 0);
-    let left = [0u32; 8];
+    let left = [0u32; TASKS_ALLOWED];
     let mut player = Player {
         next: 0,
         point,
@@ -142,17 +143,17 @@ fn call_fault(table: Table, horizon: u32, booth: usize, n: usize, room: usize) -
     ensures { λ r. ⌜ ((buffer : List ℕ) → length buffer ≡ room → r ≡ faultOf (firstFault (page.soloChecks (linesHeld table) horizon booth n buffer))) ⌝ }
 {
     if table.booths <= booth {
-        return rules::fault_at(9, 0);
+        return base::fault_at(base::NO_SUCH_BOOTH_OR_TASK, 0);
     }
     let lines = table.lines;
     let line = lines[booth];
     let promise = line.promise;
     let all = rules::due(promise, WallTick(horizon));
     if (all.0 as usize) < n {
-        return rules::fault_at(11, 0);
+        return base::fault_at(base::DOES_NOT_FIT, 0);
     }
     if room < n {
-        return rules::fault_at(11, 0);
+        return base::fault_at(base::DOES_NOT_FIT, 0);
     }
     Fault::Nothing
 }

@@ -7,8 +7,8 @@ use native.Mathlib.Numerals.{add-one}
 use native.Mathlib.Omega.{arith}
 use lib.ListN.{length, getD, drop, length-append, length-take}
 use borrow.Author.Tests.{ltb-false}
-use Rattle.rules.specs.declared.Refusal.{Refusal}
-use Rattle.rules.specs.Refusals.{refuseIf, firstFault}
+use Rattle.base.specs.declared.Refusal.{Refusal}
+use Rattle.base.specs.Refusals.{refuseIf, firstFault}
 use Rattle.rules.specs.RowBack.{rowChecks, rowBack}
 use Rattle.rules.specs.Desk as page
 use Rattle.laws.proofs.Checks.{no-fault}

@@ -7,8 +7,8 @@ use lib.ListN.{length, getD, take, drop, replicate, length-append, length-replic
 use borrow.Author.Tests.{lt-ltb, le-ltb}
 use Rattle.rules.specs.declared.Refused.{Refused}
 use Rattle.rules.specs.declared.Refused.the-variants.{Nothing, TheTable, TheLog, TheCall}
-use Rattle.rules.specs.Bytes.{written}
-use Rattle.rules.specs.Refusals.{refused, refusal}
+use Rattle.base.specs.Bytes.{written}
+use Rattle.base.specs.Refusals.{refused, refusal}
 use Rattle.rules.specs.ArrivalLog.{logH}
 use Rattle.rules.specs.Session.{Outcome, session}
 use Rattle.rules.specs.RowBack.{rowBack}

@@ -4,7 +4,7 @@ use mathlib.Core.List.{List, _++_}
 use Prim.Native.Nat.{ℕ}
 use lib.Dec.{ltb}
 use lib.ListN.{length, take}
-use Rattle.rules.specs.Bytes.{written}
+use Rattle.base.specs.Bytes.{written}
 use Rattle.rules.specs.Desk.{numberLine, recordLine, boothLines, word-admitted, word-wall, word-idle, deskText}
 use Rattle.session.specs.declared.SessionAnswer.{SessionAnswer}
 

@@ -5,11 +5,11 @@ ghost use lib.ListN.{length};
 ghost use Rattle.rules.specs.Desk as page;
 ghost use Rattle.printing.specs.Put.{Put};
 ghost use Rattle.text.specs.Answer.{answerText, textLength, withText};
+use base::Refusal;
 use printing::booth_line;
 use printing::number_line;
 use printing::record_line;
 use printing::refused_line;
-use rules::Refusal;
 use rules::Refused;
 use session::SessionAnswer;
 
@@ -58,7 +58,7 @@ fn session_text(out: &mut [u8], table: &[u8], log: &[u8]) -> usize
         Refused::TheLog => refused_line(out, b"log ", refusal),
         Refused::TheCall => refused_line(out, b"session ", refusal),
         Refused::Nothing => {
-            let h = rules::number32(log, 5) as usize;
+            let h = base::number32(log, 5) as usize;
             admitted_text(out, answer, &wall, &own, h)
         }
     }
@@ -72,7 +72,7 @@ fn table_end(input: &[u8]) -> usize
     if all < 3 {
         return all;
     }
-    let end = 3 + rules::number16(input, 1) as usize;
+    let end = 3 + base::number16(input, 1) as usize;
     if end < all {
         return end;
     }
@@ -90,7 +90,7 @@ pub fn desk_text(input: &[u8], out: &mut [u8]) -> usize
     }
     if 37044 < input.len() {
         let refusal = Refusal {
-            number: 12,
+            number: base::TOO_LONG_AN_INPUT,
             place: 37044,
         };
         return refused_line(out, b"input ", refusal);

@@ -1,6 +1,6 @@
 -- `hallanupp_files_verdict` meets its contract: the table's verdict first, then the log's. Assumes nothing.
 use mathlib.Core.Path.{_≡_, sym, ap, _∙_}
-use Rattle.rules.specs.Refusals.{refusal}
+use Rattle.base.specs.Refusals.{refusal}
 use Rattle.rules.specs.ArrivalLog.{readLog}
 use Rattle.rules.specs.Values.{linesHeld}
 use Rattle.rules.proofs.Held.{lines-held}

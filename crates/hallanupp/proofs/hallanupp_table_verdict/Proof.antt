@@ -1,6 +1,6 @@
 -- `hallanupp_table_verdict` meets its contract: the number tells whether the table was taken. Assumes nothing.
 use mathlib.Core.Path.{sym, _∙_}
-use Rattle.rules.specs.Refusals.{refusal}
+use Rattle.base.specs.Refusals.{refusal}
 use Rattle.table.proofs.Numbers.{answer-taken, answer-refused}
 use Rattle.hallanupp.proofs.Said.{table-refused, table-taken}
 use borrow.Author.Needs.{needs}

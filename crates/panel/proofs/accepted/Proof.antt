@@ -1,6 +1,7 @@
 -- `panel::accepted` meets its contract. Assumes nothing.
 use mathlib.Core.Path.{refl}
-use Rattle.rules.specs.Refusals.{refusal, accepted}
+use Rattle.base.specs.Refusals.{refusal}
+use Rattle.rules.specs.Verdicts.{accepted}
 use Rattle.panel.proofs.accepted.Statement.{statement}
 use Rattle.panel.proofs.accepted.Tie as tie
 

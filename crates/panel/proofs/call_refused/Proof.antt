@@ -1,6 +1,6 @@
 -- `panel::call_refused` meets its contract. Assumes nothing.
 use borrow.Author.Needs.{needs}
-use Rattle.rules.specs.Refusals.{refusal}
+use Rattle.base.specs.Refusals.{refusal}
 use Rattle.panel.proofs.call_refused.Statement.{statement}
 use Rattle.panel.proofs.call_refused.Tie as tie
 

@@ -1,6 +1,6 @@
 -- `panel::no_panel` meets its contract. Assumes nothing.
 use mathlib.Core.Path.{refl}
-use Rattle.rules.specs.Refusals.{refusedAs}
+use Rattle.rules.specs.Verdicts.{refusedAs}
 use Rattle.rules.specs.Panel.{noPanel, no-share}
 use Rattle.panel.specs.Shown.{shownReading, shownRow}
 use Rattle.panel.proofs.no_panel.Statement.{statement}

@@ -4,7 +4,7 @@ use Prim.Native.Nat.{_+_, _-_, _*_}
 use native.Mathlib.Omega.{arith}
 use borrow.Author.Needs.{needs}
 use lib.ListN.{take, drop}
-use Rattle.rules.proofs.Checks.{nothing-found, fault-found}
+use Rattle.base.proofs.Checks.{nothing-found, fault-found}
 use Rattle.panel.proofs.Row.{start-small, row-refused, row-given, row-within}
 use Rattle.panel.proofs.row_back.Statement.{statement}
 use Rattle.panel.proofs.row_back.Tie as tie

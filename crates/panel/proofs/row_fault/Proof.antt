@@ -2,7 +2,7 @@
 use native.Mathlib.Omega.{arith}
 use borrow.Author.Needs.{needs}
 use borrow.Author.Tests.{le-leb, lt-leb, lt-ltb, le-ltb}
-use Rattle.rules.specs.Refusals.{refuseIf, firstFault, faultOf}
+use Rattle.base.specs.Refusals.{refuseIf, firstFault, faultOf}
 use Rattle.rules.specs.RowBack.{rowChecks}
 use Rattle.panel.proofs.Row.{start-small}
 use Rattle.panel.proofs.row_fault.Statement.{statement}

@@ -1,6 +1,6 @@
 -- `session::nothing_done` meets its contract. Assumes nothing.
 use mathlib.Core.Path.{refl}
-use Rattle.rules.specs.Refusals.{refusedAs}
+use Rattle.rules.specs.Verdicts.{refusedAs}
 use Rattle.rules.specs.Values.{padded}
 use Rattle.session.specs.Answer.{nothingAnswered}
 use Rattle.session.proofs.nothing_done.Statement.{statement}

@@ -4,7 +4,7 @@ use Prim.Native.Nat.{_*_, _≤_, _<_}
 use native.Mathlib.Omega.{arith}
 use native.Mathlib.Nat.{mul-le-mul-right}
 use lib.ListN.{length}
-use Rattle.rules.specs.Refusals.{refusal, taken}
+use Rattle.base.specs.Refusals.{refusal, taken}
 use Rattle.rules.proofs.Held.{lines-held}
 use Rattle.rules.specs.Session as page
 use Rattle.rules.specs.Values.{linesHeld}

@@ -5,7 +5,7 @@ use Prim.Native.Nat.{_<_}
 use lib.ListN.{length, getD}
 use Rattle.rules.specs.BoothTable.{no-line}
 use Rattle.rules.specs.Due.{due}
-use Rattle.rules.specs.Refusals.{faultOf}
+use Rattle.base.specs.Refusals.{faultOf}
 use Rattle.rules.specs.Values.{linesHeld}
 use Rattle.table.proofs.Test.{lines-in}
 use Rattle.solo.proofs.Cases.{promise-in, call-absent, call-many, call-long, call-fits}

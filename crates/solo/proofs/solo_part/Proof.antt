@@ -4,13 +4,14 @@ use mathlib.Core.Option.{none}
 use Prim.Native.Nat.{_≤_, _<_}
 use native.Mathlib.Omega.{arith}
 use lib.ListN.{getD}
-use Rattle.rules.specs.Bytes.{written}
-use Rattle.rules.specs.Refusals.{taken, refusal, refusedAs, accepted, firstFault, faultOf}
+use Rattle.base.specs.Bytes.{written}
+use Rattle.base.specs.Refusals.{taken, refusal, firstFault, faultOf}
+use Rattle.rules.specs.Verdicts.{refusedAs, accepted}
 use Rattle.rules.specs.BoothTable.{no-line}
 use Rattle.rules.specs.Admission.{readTable}
 use Rattle.rules.specs.SoloPart.{solo, soloChecks}
 use Rattle.rules.specs.Values.{linesHeld}
-use Rattle.rules.proofs.Checks.{nothing-found, fault-found}
+use Rattle.base.proofs.Checks.{nothing-found, fault-found}
 use Rattle.rules.proofs.Held.{lines-held}
 use Rattle.table.proofs.Numbers.{answer-taken, answer-refused}
 use Rattle.arrivals.proofs.Numbers.{Took, number-zero, number-not-zero}

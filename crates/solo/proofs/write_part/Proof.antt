@@ -2,7 +2,7 @@
 use mathlib.Core.Path.{_≡_, refl, ap, _∙_}
 use Prim.Native.Nat.{_-_, _≤_}
 use native.Mathlib.Omega.{arith}
-use Rattle.rules.specs.Bytes.{written}
+use Rattle.base.specs.Bytes.{written}
 use Rattle.rules.specs.SoloPart.{solo}
 use Rattle.rules.specs.Values.{lineHeld}
 use Rattle.solo.specs.Alone.{Plays, ownIn}

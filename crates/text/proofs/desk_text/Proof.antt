@@ -4,7 +4,7 @@ use Prim.Native.Nat.{_-_}
 use native.Mathlib.Omega.{arith}
 use lib.ListN.{length, take, drop, length-drop}
 use lib.Seq.{length-take-le, take-all}
-use Rattle.rules.specs.Refusals.{refusal}
+use Rattle.base.specs.Refusals.{refusal}
 use Rattle.rules.specs.Desk as page
 use Rattle.text.proofs.Printed.{too-long, in-two-files, buffer-short, text-put}
 use borrow.Author.Needs.{needs}

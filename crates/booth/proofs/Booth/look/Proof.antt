@@ -12,7 +12,7 @@ use Rattle.booth.proofs.Booth.look.Reads as reads
 use Rattle.booth.proofs.Booth.look.Lts as lts
 use Rattle.booth.proofs.next_of.Reads as next-of-reads
 use Rattle.rules.proofs.due.Reads as due-reads
-use Rattle.rules.proofs.number32.Reads as number32-reads
+use Rattle.base.proofs.number32.Reads as number32-reads
 
 next-of-requires : tie.Need-next-of-requires
 next-of-requires c κs = search needs

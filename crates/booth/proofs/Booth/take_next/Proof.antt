@@ -18,8 +18,8 @@ use Rattle.booth.proofs.Booth.take_next.Lts as lts
 use Rattle.booth.proofs.Booth.add.Reads as add-reads
 use Rattle.booth.proofs.Booth.look.Reads as look-reads
 use Rattle.booth.proofs.Booth.pass.Reads as pass-reads
-use Rattle.rules.proofs.number16.Reads as number16-reads
-use Rattle.rules.proofs.wide.Reads as wide-reads
+use Rattle.base.proofs.number16.Reads as number16-reads
+use Rattle.base.proofs.wide.Reads as wide-reads
 
 add-wide : tie.Need-add-wide
 add-wide c = search needs
