@@ -1,5 +1,3 @@
-pub mod Pieces
-pub mod Digits
-pub mod Lines
+pub mod BoothLines
 pub mod Unrefused
 pub mod Printed

@@ -18,7 +18,7 @@ use Rattle.rules.proofs.Held.{zeros}
 use Rattle.arrivals.proofs.Entries.{accepted}
 use Rattle.session.specs.declared.SessionAnswer.{SessionAnswer}
 use Rattle.session.specs.Answer.{answered}
-use Rattle.text.specs.Put.{Put}
+use Rattle.printing.specs.Put.{Put}
 use Rattle.text.specs.Answer.{answerText, textLength, withText}
 use Rattle.text.proofs.Unrefused.{fits}
 

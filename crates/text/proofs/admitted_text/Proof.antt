@@ -2,9 +2,10 @@
 use mathlib.Core.Path.{sym}
 use native.Mathlib.Omega.{arith}
 use lib.Seq.{length-take-le}
-use Rattle.text.proofs.Pieces.{then}
+use Rattle.printing.proofs.Pieces.{then}
 use Rattle.text.specs.Answer.{answerText}
-use Rattle.text.proofs.Lines.{number-line-ends, record-line-ends, booth-lines-end}
+use Rattle.printing.proofs.LineLengths.{number-line-ends, record-line-ends}
+use Rattle.text.proofs.BoothLines.{booth-lines-end}
 use borrow.Author.Needs.{needs}
 use Rattle.text.proofs.admitted_text.Statement.{statement}
 use Rattle.text.proofs.admitted_text.Tie as tie

@@ -6,9 +6,9 @@ use lib.ListN.{length, getD}
 use Rattle.rules.specs.RowBack.{rowBack}
 use Rattle.rules.specs.Desk as page
 use borrow.Author.Needs.{needs}
-use Rattle.text.proofs.Pieces.{put-nothing, then}
-use Rattle.text.specs.Put.{Put}
-use Rattle.text.proofs.Lines.{row-short, booth-lines-end, booth-lines-more}
+use Rattle.printing.proofs.Pieces.{put-nothing, then}
+use Rattle.printing.specs.Put.{Put}
+use Rattle.text.proofs.BoothLines.{row-short, booth-lines-end, booth-lines-more}
 use Rattle.text.proofs.booth_lines.Statement.{statement}
 use Rattle.text.proofs.booth_lines.Tie as tie
 

@@ -1,18 +1,18 @@
--- `text::put_digits` meets its contract. It calls itself with a falling `most`. Assumes nothing.
+-- `printing::put_digits` meets its contract. It calls itself with a falling `most`. Assumes nothing.
 use mathlib.Core.Path.{sym, _∙_, subst}
 use Prim.Native.Nat.{ℕ, _+_, _-_, _/_, _%_, _<_}
 use native.Mathlib.Omega.{arith}
 use lib.ListN.{set, length-set}
-use Rattle.text.specs.Put.{Put}
-use Rattle.text.proofs.Pieces.{put-nothing, push}
-use Rattle.text.proofs.Digits.{no-digits, one-digit, more-digits, few-digits}
+use Rattle.printing.specs.Put.{Put}
+use Rattle.printing.proofs.Pieces.{put-nothing, push}
+use Rattle.printing.proofs.Digits.{no-digits, one-digit, more-digits, few-digits}
 use borrow.Fn.Kinds.{In}
 use borrow.Fn.PlainCycle.{Measures, is, falls, and}
-use Rattle.text.proofs.put_digits.Reads as put-digits
-use Rattle.text.proofs.put_digits.Kinds as put-digits-kinds
-use Rattle.text.proofs.+put_digits.Lts-put_digits as put-digits-lts
-use Rattle.text.proofs.+put_digits.{statement}
-use Rattle.text.proofs.+put_digits.Tie.{close}
+use Rattle.printing.proofs.put_digits.Reads as put-digits
+use Rattle.printing.proofs.put_digits.Kinds as put-digits-kinds
+use Rattle.printing.proofs.+put_digits.Lts-put_digits as put-digits-lts
+use Rattle.printing.proofs.+put_digits.{statement}
+use Rattle.printing.proofs.+put_digits.Tie.{close}
 
 abbrev μ-put-digits : Measures 1 put-digits-kinds.ps ℕ
 μ-put-digits κs a = a .1 .1 .1 .0

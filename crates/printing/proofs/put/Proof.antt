@@ -1,13 +1,13 @@
--- `text::put` meets its contract: after i turns the first i bytes stand. Assumes nothing.
+-- `printing::put` meets its contract: after i turns the first i bytes stand. Assumes nothing.
 use mathlib.Core.Path.{_≡_, refl, _∙_}
 use Prim.Native.Nat.{_+_, _-_, _≤_}
 use native.Mathlib.Omega.{arith}
 use lib.ListN.{length, getD, take, length-set}
-use Rattle.text.specs.Put.{Put}
-use Rattle.text.proofs.Pieces.{put-first, push-next, put-last}
+use Rattle.printing.specs.Put.{Put}
+use Rattle.printing.proofs.Pieces.{put-first, push-next, put-last}
 use borrow.Author.Needs.{needs}
-use Rattle.text.proofs.put.Statement.{statement}
-use Rattle.text.proofs.put.Tie as tie
+use Rattle.printing.proofs.put.Statement.{statement}
+use Rattle.printing.proofs.put.Tie as tie
 
 abbrev Inv-loop : tie.InvT-loop
 Inv-loop out₀ at bytes i₀ out i =
@@ -40,7 +40,7 @@ loop-again c =
     let at = c .before .before .loop in (
       omega arith,
       length-set (at .out) (st .args .at + at .i) (getD (st .args .bytes .now) (at .i) 0) ∙ at .inv .1,
-      push-next (st .args .bytes .now) (omega arith) (at .inv .2) (omega (arith, st .pre)),
+      push-next (st .args .bytes .now) 0 (omega arith) (at .inv .2) (omega (arith, st .pre)),
     )
 
 add-result : tie.Need-add-result Inv-loop μ-loop

@@ -1,9 +1,9 @@
--- `text::put_labelled` meets its contract: the word, then its number. Assumes nothing.
+-- `printing::put_labelled` meets its contract: the word, then its number. Assumes nothing.
 use Rattle.rules.specs.Desk as page
-use Rattle.text.proofs.Pieces.{then}
+use Rattle.printing.proofs.Pieces.{then}
 use borrow.Author.Needs.{needs}
-use Rattle.text.proofs.put_labelled.Statement.{statement}
-use Rattle.text.proofs.put_labelled.Tie as tie
+use Rattle.printing.proofs.put_labelled.Statement.{statement}
+use Rattle.printing.proofs.put_labelled.Tie as tie
 
 put-requires : tie.Need-put-requires
 put-requires c κs = search needs

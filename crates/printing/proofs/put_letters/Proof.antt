@@ -1,15 +1,14 @@
--- `text::put_letters` meets its contract: after i turns the first i letters stand. Assumes nothing.
+-- `printing::put_letters` meets its contract: after i turns the first i letters stand. Assumes nothing.
 use mathlib.Core.Path.{_≡_, refl, sym, _∙_, subst}
 use mathlib.Core.List.{map}
 use Prim.Native.Nat.{_+_, _-_, _≤_, _<_}
 use native.Mathlib.Omega.{arith}
-use lib.ListN.{length, getD, take, set, length-set, length-map}
+use lib.ListN.{length, getD, take, set, length-set, length-map, List·getD-map}
 use Rattle.rules.specs.Desk as page
-use Rattle.laws.proofs.Run.{getD-map}
-use Rattle.text.specs.Put.{Put}
-use Rattle.text.proofs.Pieces.{put-first, push-next, put-last}
-use Rattle.text.proofs.put_letters.Statement.{statement}
-use Rattle.text.proofs.put_letters.Tie as tie
+use Rattle.printing.specs.Put.{Put}
+use Rattle.printing.proofs.Pieces.{put-first, push-next, put-last}
+use Rattle.printing.proofs.put_letters.Statement.{statement}
+use Rattle.printing.proofs.put_letters.Tie as tie
 
 abbrev Inv-loop : tie.InvT-loop
 Inv-loop out₀ at kept i₀ out i =
@@ -45,11 +44,11 @@ loop-again c =
     let at = c .before .before .before .loop in
     let kept = st .args .kept .now in
     let there : at .i < length kept = omega arith in
-    let is : getD (map page.letter kept) (at .i) 0 ≡ c .letter .result = getD-map page.letter kept (at .i) 0 0 there ∙ sym (c .letter .ensures) in (
+    let is : getD (map page.letter kept) (at .i) (page.letter 0) ≡ c .letter .result = List·getD-map page.letter kept (at .i) 0 ∙ sym (c .letter .ensures) in (
       omega arith,
       length-set (at .out) (st .args .at + at .i) (c .letter .result) ∙ at .inv .1,
       subst (λ x. Put (st .args .at) (take (at .i + 1) (map page.letter kept)) (st .args .out .now) (set (at .out) (st .args .at + at .i) x) (st .args .at + (at .i + 1))) is
-          (push-next (map page.letter kept) (omega (arith, length-map kept page.letter, there)) (at .inv .2) (omega (arith, st .pre))),
+          (push-next (map page.letter kept) (page.letter 0) (omega (arith, length-map kept page.letter, there)) (at .inv .2) (omega (arith, st .pre))),
     )
 
 add-result : tie.Need-add-result Inv-loop μ-loop

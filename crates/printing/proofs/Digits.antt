@@ -8,7 +8,7 @@ use lib.Dec.{ltb}
 use lib.ListN.{length, length-append}
 use borrow.Author.Tests.{lt-ltb, le-ltb}
 use Rattle.rules.specs.Desk.{digits, decimal, labelled}
-use Rattle.text.specs.Put.{Put}
+use Rattle.printing.specs.Put.{Put}
 
 pub no-digits : (most n : ℕ) → most ≡ 0 → digits most n ≡ []
 unfolding digits

@@ -1,11 +1,11 @@
--- `text::number_line` meets its contract: word and number, then the end of the line. Assumes nothing.
+-- `printing::number_line` meets its contract: word and number, then the end of the line. Assumes nothing.
 use native.Mathlib.Omega.{arith}
 use Rattle.rules.specs.Desk as page
-use Rattle.text.proofs.Pieces.{then}
-use Rattle.text.proofs.Digits.{labelled-ends}
+use Rattle.printing.proofs.Pieces.{then}
+use Rattle.printing.proofs.Digits.{labelled-ends}
 use borrow.Author.Needs.{needs}
-use Rattle.text.proofs.number_line.Statement.{statement}
-use Rattle.text.proofs.number_line.Tie as tie
+use Rattle.printing.proofs.number_line.Statement.{statement}
+use Rattle.printing.proofs.number_line.Tie as tie
 
 put-labelled-requires : tie.Need-put-labelled-requires
 put-labelled-requires c κs = search needs

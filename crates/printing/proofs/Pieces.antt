@@ -8,7 +8,7 @@ use native.Mathlib.Omega.{arith}
 use lib.ListN.{length, getD, take, drop, set, length-append, length-take, take-append-drop}
 use lib.Seq.{take-suc, take-all, take-at, drop-at, drop-cons, drop-drop, set-at, append-snoc}
 use Rattle.base.specs.Bytes.{written}
-use Rattle.text.specs.Put.{Put}
+use Rattle.printing.specs.Put.{Put}
 
 -- no byte changes nothing
 pub put-nothing : (at : ℕ) (lent : List ℕ) → at ≤ length lent → Put at [] lent lent at
@@ -79,11 +79,11 @@ push {at} {m} {xs} {a} {b} x p h =
 pub put-first : (at : ℕ) (lent : List ℕ) → at ≤ length lent → Put at [] lent lent (at + 0)
 put-first at lent h = subst (λ m. Put at [] lent lent m) (sym (add-zero at)) (put-nothing at lent h)
 
-pub push-next : {at i : ℕ} {a b : List ℕ} (xs : List ℕ) → i < length xs → Put at (take i xs) a b (at + i) → at + i < length a
-    → Put at (take (i + 1) xs) a (set b (at + i) (getD xs i 0)) (at + (i + 1))
-push-next {at} {i} {a} {b} xs h p room =
-    let more : take i xs ++ (getD xs i 0 ∷ []) ≡ take (i + 1) xs = sym (take-suc xs i 0 h) ∙ ap (λ k. take k xs) (sym (add-one i)) in
-    let q = push (getD xs i 0) p room in
+pub push-next : {at i : ℕ} {a b : List ℕ} (xs : List ℕ) (d : ℕ) → i < length xs → Put at (take i xs) a b (at + i) → at + i < length a
+    → Put at (take (i + 1) xs) a (set b (at + i) (getD xs i d)) (at + (i + 1))
+push-next {at} {i} {a} {b} xs d h p room =
+    let more : take i xs ++ (getD xs i d ∷ []) ≡ take (i + 1) xs = sym (take-suc xs i d h) ∙ ap (λ k. take k xs) (sym (add-one i)) in
+    let q = push (getD xs i d) p room in
     record { inside = q .inside; now-holds = q .now-holds ∙ ap (λ l. written at l a) more; behind = omega (arith, q .behind, ap length more) }
 
 pub put-last : {at i : ℕ} {a b : List ℕ} (xs : List ℕ) → length xs ≤ i → Put at (take i xs) a b (at + i) → Put at xs a b (at + i)

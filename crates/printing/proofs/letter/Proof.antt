@@ -1,11 +1,11 @@
--- `text::letter` meets its contract. Assumes nothing.
+-- `printing::letter` meets its contract. Assumes nothing.
 use mathlib.Core.Path.{sym}
 use Rattle.rules.specs.Desk as page
 use borrow.Author.Tests.{lt-ltb, le-ltb}
 use borrow.Author.Needs.{needs}
 use borrow.Author.Needs.{needs}
-use Rattle.text.proofs.letter.Statement.{statement}
-use Rattle.text.proofs.letter.Tie as tie
+use Rattle.printing.proofs.letter.Statement.{statement}
+use Rattle.printing.proofs.letter.Tie as tie
 
 add-result : tie.Need-add-result
 add-result c = search needs

@@ -1,11 +1,11 @@
--- `text::booth_line` meets its contract. Assumes nothing.
+-- `printing::booth_line` meets its contract. Assumes nothing.
 use native.Mathlib.Omega.{arith}
 use Rattle.rules.specs.Desk as page
-use Rattle.text.proofs.Pieces.{then}
-use Rattle.text.proofs.Digits.{labelled-ends}
+use Rattle.printing.proofs.Pieces.{then}
+use Rattle.printing.proofs.Digits.{labelled-ends}
 use borrow.Author.Needs.{needs}
-use Rattle.text.proofs.booth_line.Statement.{statement}
-use Rattle.text.proofs.booth_line.Tie as tie
+use Rattle.printing.proofs.booth_line.Statement.{statement}
+use Rattle.printing.proofs.booth_line.Tie as tie
 
 slice-aggregate-put-labelled : tie.Need-slice-aggregate-put-labelled
 slice-aggregate-put-labelled c = search needs

@@ -1,11 +1,11 @@
--- `text::record_line` meets its contract: the word, the letters, then the end of the line. Assumes nothing.
+-- `printing::record_line` meets its contract: the word, the letters, then the end of the line. Assumes nothing.
 use native.Mathlib.Omega.{arith}
 use lib.ListN.{length-map}
 use Rattle.rules.specs.Desk as page
-use Rattle.text.proofs.Pieces.{then}
+use Rattle.printing.proofs.Pieces.{then}
 use borrow.Author.Needs.{needs}
-use Rattle.text.proofs.record_line.Statement.{statement}
-use Rattle.text.proofs.record_line.Tie as tie
+use Rattle.printing.proofs.record_line.Statement.{statement}
+use Rattle.printing.proofs.record_line.Tie as tie
 
 put-requires : tie.Need-put-requires
 put-requires c κs = search needs

@@ -1,28 +1,20 @@
--- How long each line may be, and the lines of one booth more. Assumes nothing.
+-- The lines of the booths: how long each may be, and one booth more. Assumes nothing.
 use mathlib.Core.Path.{_≡_, refl, ap}
-use mathlib.Core.List.{List, _++_, map}
+use mathlib.Core.List.{List, _++_}
 use mathlib.Core.Option.{Option, none, some}
 use Prim.Native.Nat.{ℕ, zero, suc, _+_, _*_, _≤_}
 use native.Mathlib.Numerals.{add-one}
 use native.Mathlib.Omega.{arith}
-use lib.ListN.{length, getD, drop, length-append, length-map, length-take}
+use lib.ListN.{length, getD, drop, length-append, length-take}
 use borrow.Author.Tests.{ltb-false}
 use Rattle.base.specs.declared.Refusal.{Refusal}
 use Rattle.base.specs.Refusals.{refuseIf, firstFault}
 use Rattle.rules.specs.RowBack.{rowChecks, rowBack}
 use Rattle.rules.specs.Desk as page
 use Rattle.laws.proofs.Checks.{no-fault}
-use Rattle.text.specs.Put.{Put}
-use Rattle.text.proofs.Digits.{labelled-length}
-
-pub number-line-length : (word : List ℕ) (n : ℕ) → length (page.numberLine word n) ≤ length word + 21
-unfolding page.numberLine
-number-line-length word n = omega (arith, length-append (page.labelled word n) page.line-end, labelled-length word n)
-
-pub record-line-length : (word bytes : List ℕ) → length (page.recordLine word bytes) ≡ length word + length bytes + 1
-unfolding page.recordLine
-record-line-length word bytes =
-    omega (arith, length-append word (map page.letter bytes ++ page.line-end), length-append (map page.letter bytes) page.line-end, length-map bytes page.letter)
+use Rattle.printing.specs.Put.{Put}
+use Rattle.printing.proofs.Digits.{labelled-length}
+use Rattle.printing.proofs.LineLengths.{record-line-length}
 
 -- a row handed back is no longer than the session
 pub row-short : (own : List ℕ) (H i u : ℕ) → length ((rowBack own H i u) .part) ≤ H
@@ -72,12 +64,6 @@ pub booth-lines-more : (i H : ℕ) (clocks worked own : List ℕ)
 unfolding page.boothLines
 booth-lines-more i H clocks worked own = ap (λ k. page.boothLines k H clocks worked own) (add-one i)
 
--- where the piece behind a line, or behind the booths' lines, goes
-pub number-line-ends : (word : List ℕ) (n : ℕ) {at m : ℕ} {a b : List ℕ} → Put at (page.numberLine word n) a b m → m ≤ at + length word + 21
-number-line-ends word n p = omega (arith, p .behind, number-line-length word n)
-
-pub record-line-ends : (word bytes : List ℕ) {at m : ℕ} {a b : List ℕ} → Put at (page.recordLine word bytes) a b m → m ≡ at + length word + length bytes + 1
-record-line-ends word bytes p = omega (arith, p .behind, record-line-length word bytes)
-
+-- where the piece behind them goes
 pub booth-lines-end : (n H : ℕ) (clocks worked own : List ℕ) {at m : ℕ} {a b : List ℕ} → H ≤ 2000 → Put at (page.boothLines n H clocks worked own) a b m → m ≤ at + n * 2081
 booth-lines-end n H clocks worked own h p = omega (arith, p .behind, booth-lines-length n H clocks worked own h)
