@@ -13,9 +13,10 @@ use borrow.Author.Tests.{leb-true, le-leb}
 use Rattle.base.specs.Refusals.{Taken, taken, refused, refusal, not-admitted}
 use Rattle.rules.specs.BoothTable.{Line, no-line, readLines}
 use Rattle.rules.specs.Admission.{askedAbove, someUpTo, passes, firstFailing, readTable}
+use Rattle.base.proofs.Checks.{refused-with}
+use Rattle.rules.proofs.SaidNumbers.{BeforeAdmission, lines-say}
 use Rattle.laws.specs.Statements.{Passes, FirstFails, Admission}
 use Rattle.laws.proofs.Checks.{taken-or-refused, taken-once, refused-once, some-not-none, some-once}
-use Rattle.laws.proofs.Readers.{not-seven}
 
 -- ---- one booth's test
 
@@ -151,7 +152,7 @@ refuses bs at h = lines (readLines bs) refl
     lines : (t : Taken (List Line)) → readLines bs ≡ t → Answer
     lines (refused r) q =
         let e = refused-once r (refusal not-admitted at) (rw (q, readTable) at h) in
-        absurd (not-seven bs r q (ap (λ x. x .number) e))
+        absurd (omega (arith, ap (λ x. x .number) e, refused-with BeforeAdmission (readLines bs) r (lines-say bs) q))
     lines (taken ls) q = tested ls q (firstFailing [] ls) refl
 
 some-fails : (bs : List ℕ) (ls : List Line) (i : ℕ) → readLines bs ≡ taken ls → i < length ls → ¬ (Passes (take i ls) (getD ls i no-line))
