@@ -13,9 +13,11 @@ use borrow.Author.Tests.{leb-true, le-leb}
 use Rattle.base.specs.Refusals.{Taken, taken, refused, refusal, not-admitted}
 use Rattle.rules.specs.BoothTable.{Line, Placed, linesOf, startsOf, no-line, readLines}
 use Rattle.rules.specs.Admission.{askedAbove, someUpTo, passes, firstFailing, readTable}
+use Rattle.base.proofs.Checks.{refused-with}
+use Rattle.rules.proofs.SaidNumbers.{BeforeAdmission, lines-say}
 use Rattle.laws.specs.Statements.{Passes, FirstFails, Admission}
 use Rattle.laws.proofs.Checks.{taken-or-refused, taken-once, refused-once, some-not-none, some-once}
-use Rattle.laws.proofs.Readers.{Lines, read-lines, not-seven}
+use Rattle.laws.proofs.Readers.{Lines, read-lines}
 
 -- ---- one booth's test
 
@@ -169,7 +171,7 @@ refuses bs at h = lines (readLines bs) refl
     lines : (t : Taken (List Placed)) → readLines bs ≡ t → Refuses bs at
     lines (refused r) q =
         let e = refused-once r (refusal not-admitted at) (rw (q, readTable) at h) in
-        absurd (not-seven bs r q (ap (λ x. x .number) e))
+        absurd (omega (arith, ap (λ x. x .number) e, refused-with BeforeAdmission (readLines bs) r (lines-say bs) q))
     lines (taken ps) q = tested ps q (firstFailing 0 [] (linesOf ps)) refl
 
 some-fails : (bs : List ℕ) (ps : List Placed) (i : ℕ) → readLines bs ≡ taken ps → i < length (linesOf ps) → ¬ (Passes (take i (linesOf ps)) (getD (linesOf ps) i no-line))

@@ -1,6 +1,5 @@
--- Checks made in order: what it says of each of them that none fails, and which numbers they can say. Assumes nothing.
-use mathlib.Core.Path.{_≡_, refl, sym, subst}
-use mathlib.Core.Logic.{_≢_}
+-- Checks made in order: what it says of each of them that none fails. Assumes nothing.
+use mathlib.Core.Path.{_≡_, refl}
 use mathlib.Core.Bool.{Bool, true, false}
 use mathlib.Core.List.{List, [], _∷_}
 use mathlib.Core.Option.{none, some}
@@ -37,17 +36,3 @@ no-fault (c ∷ cs) h = go (c .fails) refl (λ e. no-fault cs e)
     go : (f : Bool) → c .fails ≡ f → (firstFault cs ≡ none → AllPass cs) → (c .fails ≡ false) × AllPass cs
     go true q ih = absurd (some-not-none _ (rw (q, firstFault) at h))
     go false q ih = (q, ih (rw (q, firstFault) at h))
-
--- none of the checks says the number n
-abbrev pub NoneSays : ℕ → List Check → Type 0
-NoneSays n [] = Unit {0}
-NoneSays n (c ∷ cs) = (c .says .number ≢ n) × NoneSays n cs
-
-pub not-said : (n : ℕ) (cs : List Check) (r : Refusal) → NoneSays n cs → firstFault cs ≡ some r → r .number ≢ n
-unfolding firstFault
-not-said n [] r s h = absurd (some-not-none r (sym h))
-not-said n (c ∷ cs) r s h = go (c .fails) refl (λ e. not-said n cs r (s .1) e)
-  where
-    go : (f : Bool) → c .fails ≡ f → (firstFault cs ≡ some r → r .number ≢ n) → r .number ≢ n
-    go true q ih = subst (λ x. x .number ≢ n) (some-once (c .says) r (rw (q, firstFault) at h)) (s .0)
-    go false q ih = ih (rw (q, firstFault) at h)

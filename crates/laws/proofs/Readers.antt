@@ -1,5 +1,5 @@
 -- What the readers guarantee of what they take. Assumes nothing.
-use mathlib.Core.Path.{_≡_, refl, sym, subst}
+use mathlib.Core.Path.{_≡_, refl, subst}
 use mathlib.Core.Logic.{_≢_}
 use mathlib.Core.Bool.{Bool, true, false}
 use mathlib.Core.List.{List, [], _∷_, _++_}
@@ -11,14 +11,14 @@ use lib.Dec.{leb, ltb, eqb}
 use lib.ListN.{length, getD}
 use borrow.Author.Tests.{ltb-false, leb-true, leb-false, eqb-false, not-false}
 use Rattle.base.specs.declared.Refusal.{Refusal}
-use Rattle.base.specs.Refusals.{Taken, taken, refused, refuseIf, firstFault, refusal, not-admitted}
+use Rattle.base.specs.Refusals.{Taken, taken, refused, refuseIf, firstFault}
 use Rattle.rules.specs.BoothTable.{Line, Placed, linesOf, booths-allowed, longest-period, tableN, headerChecks, recordL, recordEnd, lineAt, placedAt, lengthAllowed, lineChecks, recordChecks, withPlaced, readRecords, readLines}
 use Rattle.rules.specs.ArrivalLog.{Entry, Log, longest-session, entries-allowed, entry-bytes, logH, headChecks, horizonChecks, entryAt, longestJobs, entryChecks, withEntry, readEntries, withHorizon, readLog}
 use Rattle.base.proofs.Checks.{neither}
 use Rattle.rules.proofs.Records.{length-jobs, allowed-range}
 use Rattle.laws.specs.Statements.{GoodLine, GoodEntry}
 use Rattle.laws.proofs.Entries.{From, Sorted}
-use Rattle.laws.proofs.Checks.{taken-or-refused, taken-once, refused-once, no-fault, not-said}
+use Rattle.laws.proofs.Checks.{taken-or-refused, taken-once, no-fault}
 
 -- each of a list
 abbrev pub All : {A : Type 0} → (A → Type 0) → List A → Type 0
@@ -115,41 +115,6 @@ read-lines bs ps h = go (firstFault (headerChecks bs)) refl
     go none q =
         let r = read-records booths-allowed bs 3 ps (rw (q, readLines) at h) in
         record { some-booth = r .some (header-length bs q); few-booths = r .few; good = r .good }
-
--- ---- no check of the table's bytes says 7
-
-not-seven-record : (room : ℕ) (bs : List ℕ) (at : ℕ) (r : Refusal) → readRecords room bs at ≡ refused r → r .number ≢ not-admitted
-unfolding readRecords refusal
-not-seven-record zero bs at r h = go (leb (length bs) at) refl
-  where
-    go : (c : Bool) → leb (length bs) at ≡ c → r .number ≢ not-admitted
-    go true q = absurd (taken-or-refused [] r (sym (rw (q, readRecords) at h)))
-    go false q = subst (λ x. x .number ≢ not-admitted) (refused-once _ r (rw (q, readRecords) at h)) (omega arith)
-not-seven-record (suc room) bs at r h = go (λ e. not-seven-record room bs (recordEnd bs at) r e) (leb (length bs) at) refl (firstFault (recordChecks bs at)) refl
-  where
-    says : (x : Refusal) → firstFault (recordChecks bs at) ≡ some x → x .number ≢ not-admitted
-    says x p = not-said not-admitted (recordChecks bs at) x (unfold recordChecks lineChecks refuseIf refusal in omega arith) p
-
-    inner : (t : Taken (List Placed)) → withPlaced (placedAt bs at) t ≡ refused r → t ≡ refused r
-    inner (taken qs) e = absurd (taken-or-refused (placedAt bs at ∷ qs) r (sym (unfold withPlaced in e)))
-    inner (refused x) e = unfold withPlaced in e
-
-    go : (readRecords room bs (recordEnd bs at) ≡ refused r → r .number ≢ not-admitted) → (c : Bool) → leb (length bs) at ≡ c
-        → (f : Option Refusal) → firstFault (recordChecks bs at) ≡ f → r .number ≢ not-admitted
-    go ih true q f p = absurd (taken-or-refused [] r (sym (rw (q, readRecords) at h)))
-    go ih false q (some x) p = subst (λ y. y .number ≢ not-admitted) (refused-once x r (rw p at (rw (q, readRecords) at h))) (says x p)
-    go ih false q none p = ih (inner (readRecords room bs (recordEnd bs at)) (rw p at (rw (q, readRecords) at h)))
-
-pub not-seven : (bs : List ℕ) (r : Refusal) → readLines bs ≡ refused r → r .number ≢ not-admitted
-unfolding readLines
-not-seven bs r h = go (firstFault (headerChecks bs)) refl
-  where
-    says : (x : Refusal) → firstFault (headerChecks bs) ≡ some x → x .number ≢ not-admitted
-    says x p = not-said not-admitted (headerChecks bs) x (unfold headerChecks refuseIf refusal in omega arith) p
-
-    go : (f : Option Refusal) → firstFault (headerChecks bs) ≡ f → r .number ≢ not-admitted
-    go (some x) q = subst (λ y. y .number ≢ not-admitted) (refused-once x r (rw (q, readLines) at h)) (says x q)
-    go none q = not-seven-record booths-allowed bs 3 r (rw (q, readLines) at h)
 
 -- ---- the log
 

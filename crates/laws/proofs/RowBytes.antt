@@ -3,8 +3,7 @@ use mathlib.Core.Path.{_≡_, refl, sym, ap, _∙_, subst}
 use mathlib.Core.Logic.{_⊎_, inl, inr, ⊎-elim}
 use mathlib.Core.Bool.{Bool, true, false}
 use mathlib.Core.List.{List, [], _∷_, _++_}
-use Prim.Native.Nat.{ℕ, zero, suc, _+_, _<_}
-use native.Mathlib.Nat.{zero-add}
+use Prim.Native.Nat.{ℕ, zero, suc, _<_}
 use native.Mathlib.Omega.{arith}
 use lib.Dec.{ltb}
 use lib.ListN.{length, getD, List·getD-append}
@@ -15,18 +14,8 @@ use Rattle.rules.specs.ArrivalLog.{Entry}
 use Rattle.rules.specs.Moves.{nobody}
 use Rattle.rules.specs.Session.{count}
 use Rattle.rules.specs.SoloPart.{asked, firstThat, solo}
+use Rattle.rules.proofs.FirstThat.{found}
 use Rattle.laws.proofs.Opening.{length-solo}
-
--- one of the tasks asked, or nobody
-first-in : (test : ℕ → Bool) (m k : ℕ) → (firstThat test m k < k + m) ⊎ (firstThat test m k ≡ nobody)
-unfolding firstThat
-first-in test zero k = inr refl
-first-in test (suc m) k = go (first-in test m (suc k)) (test k) refl
-  where
-    go : (firstThat test m (suc k) < suc k + m) ⊎ (firstThat test m (suc k) ≡ nobody) → (b : Bool) → test k ≡ b
-        → (firstThat test (suc m) k < k + suc m) ⊎ (firstThat test (suc m) k ≡ nobody)
-    go later true e = rw (e, firstThat) (inl (omega arith))
-    go later false e = rw (e, firstThat) (⊎-elim (λ l. inl (omega (arith, l))) (λ n. inr n) later)
 
 pub solo-bytes : (l : Line) (es : List Entry) (n j : ℕ) → j < n → (getD (solo l es n) j 0 < length (l .longest)) ⊎ (getD (solo l es n) j 0 ≡ nobody)
 unfolding solo
@@ -49,4 +38,4 @@ solo-bytes l es (suc n) j h = go (λ k. solo-bytes l es n j k) (ltb j n) refl
     go before false e =
         let last : j ≡ length (solo l es n) = omega (arith, h, ltb-false j n e, length-solo l es n) in
         subst InRow (sym (ap (λ k. getD (solo l es n ++ (next ∷ [])) k 0) last ∙ getD-append-seam (solo l es n) next [] 0))
-        (subst (λ m. (next < m) ⊎ (next ≡ nobody)) (zero-add (length (l .longest))) (first-in test (length (l .longest)) 0))
+        (⊎-elim (λ z. inr z) (λ z. inl (omega (arith, z .0))) (found test (length (l .longest)) 0))

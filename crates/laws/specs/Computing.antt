@@ -39,15 +39,15 @@ unfolding
 computing = tt
 
 -- the lines and the log that bytes are read as
-abbrev pub tableAs : List ℕ → List Line
-tableAs table = elim (readTable table) [ taken ls ↦ ls | refused r ↦ [] ]
+abbrev pub tableRead : List ℕ → List Line
+tableRead table = elim (readTable table) [ taken ls ↦ ls | refused r ↦ [] ]
 
-abbrev pub logAs : List Line → List ℕ → Log
-logAs ls log = elim (readLog ls log) [ taken l ↦ l | refused r ↦ record { horizon = 0; entries = [] } ]
+abbrev pub logRead : List Line → List ℕ → Log
+logRead ls log = elim (readLog ls log) [ taken l ↦ l | refused r ↦ record { horizon = 0; entries = [] } ]
 
 -- a session by its bytes, where computing shows that it is accepted
-unfoldable pub byBytes : (table log wall own : List ℕ) → (session table log wall own) .verdict ≡ accepted → readTable table ≡ taken (tableAs table)
-    → readLog (tableAs table) log ≡ taken (logAs (tableAs table) log) → Accepted
+unfoldable pub byBytes : (table log wall own : List ℕ) → (session table log wall own) .verdict ≡ accepted → readTable table ≡ taken (tableRead table)
+    → readLog (tableRead table) log ≡ taken (logRead (tableRead table) log) → Accepted
 byBytes table log wall own a t l =
     record {
       tableBytes = table;
@@ -55,8 +55,8 @@ byBytes table log wall own a t l =
       wallLent = wall;
       ownLent = own;
       accepts = a;
-      table = tableAs table;
-      log = logAs (tableAs table) log;
+      table = tableRead table;
+      log = logRead (tableRead table) log;
       table-read = t;
       log-read = l;
     }

@@ -27,7 +27,7 @@ use Rattle.laws.proofs.LentRows.{length-written}
 use Rattle.solo.specs.declared.Player.{Player}
 use Rattle.solo.specs.Alone.{Alone, Point, Plays, Admitted, Passed, entriesIn, entryOf, waiting, ownIn, ownTick, never}
 use Rattle.solo.proofs.Waiting.{waiting-own, waiting-other, asked-task, asked-elsewhere, none-asked}
-use Rattle.solo.proofs.FirstTask.{found, alike}
+use Rattle.rules.proofs.FirstThat.{found, alike}
 
 -- a store at one task
 stored : (xs : List ℕ) (i v k : ℕ) → i < length xs → (k ≡ i → getD (set xs i v) k 0 ≡ v) × (k ≢ i → getD (set xs i v) k 0 ≡ getD xs k 0)
