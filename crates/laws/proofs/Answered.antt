@@ -131,7 +131,7 @@ module _ (s : Accepted) where
   pub lines-read : Lines ls
   lines-read = read-lines (s .tableBytes) ls ((read-table (s .tableBytes) ls (s .table-read)) .0)
 
-  pub log-is-read : LogRead ls (s .log)
+  pub log-is-read : LogRead ls (s .logBytes) (s .log)
   log-is-read = read-log ls (s .logBytes) (s .log) (s .log-read)
 
   pub good-line : (i : ℕ) → i < booths s → GoodLine (lineOf s i)
