@@ -94,7 +94,6 @@ impl Booth {
             promise,
             tasks: 0,
             longest: [0; TASKS_ALLOWED],
-            start: 0,
         };
         Booth {
             number: 0,

@@ -2,4 +2,4 @@ pub mod Verdicts
 pub mod RowInC
 pub mod PanelInC
 pub mod SessionInC
-pub mod EveryAnswerPinned
+pub mod OneReply

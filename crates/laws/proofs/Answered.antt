@@ -23,8 +23,8 @@ use Rattle.rules.specs.Session.{count, workedFrom, writeRows, freshBooth, settl
 use Rattle.laws.specs.Statements.{GoodLine, Passes, Accepted, outcome, booths, ticks, lineOf, clockOf, rowOf, wallOf, settledOf}
 use Rattle.laws.proofs.DueLaws.{due-at-most}
 use Rattle.laws.proofs.Checks.{no-fault}
-use Rattle.laws.proofs.Readers.{all-at, Lines, read-lines, LogRead, read-log}
-use Rattle.laws.proofs.Admitted.{read-table}
+use Rattle.laws.proofs.Readers.{all-at, Lines, LogRead, read-log}
+use Rattle.laws.proofs.Admitted.{read-table, table-lines}
 use Rattle.laws.proofs.Run.{AsRead, getD-map, length-booths}
 use Rattle.laws.proofs.Clocks.{never-ahead}
 use Rattle.laws.proofs.Rows.{row-length}
@@ -129,7 +129,7 @@ module _ (s : Accepted) where
   -- ---- the table and the log
 
   pub lines-read : Lines ls
-  lines-read = read-lines (s .tableBytes) ls ((read-table (s .tableBytes) ls (s .table-read)) .0)
+  lines-read = table-lines (s .tableBytes) ls (s .table-read)
 
   pub log-is-read : LogRead ls (s .logBytes) (s .log)
   log-is-read = read-log ls (s .logBytes) (s .log) (s .log-read)
@@ -138,7 +138,7 @@ module _ (s : Accepted) where
   good-line i h = all-at GoodLine ls no-line (lines-read .good) i h
 
   pub passing : (i : ℕ) → i < booths s → Passes (take i ls) (lineOf s i)
-  passing i h = (read-table (s .tableBytes) ls (s .table-read)) .1 i h
+  passing i h = (read-table (s .tableBytes) ls (s .table-read)) .pass i h
 
   pub as-read : AsRead ls es
   as-read =

@@ -5,39 +5,20 @@ use Prim.Native.Nat.{_<_, min}
 use native.Mathlib.Omega.{arith}
 use lib.ListN.{length}
 use lib.Seq.{take-all}
-use Rattle.base.specs.Bytes
-use Rattle.base.specs.Refusals
-use Rattle.rules.specs.Verdicts
-use Rattle.rules.specs.BoothTable
-use Rattle.rules.specs.ArrivalLog
-use Rattle.rules.specs.Admission
 use Rattle.rules.specs.Due
-use Rattle.rules.specs.Moves
 use Rattle.rules.specs.Session
 use Rattle.rules.specs.SoloPart
 use Rattle.rules.specs.SoloPart.{solo}
 use Rattle.rules.specs.MarkedCases
-use Rattle.laws.specs.Statements.{booths, lineOf, entriesOf, clockOf, rowOf, settledOf}
+use Rattle.laws.specs.Statements.{booths, lineOf, entriesOf, clockOf, rowOf, settledOf, ThereAt}
+use Rattle.laws.specs.Computing.{computing}
 use Rattle.laws.specs.Audition.{lines, entry, sessions, m1, m2, TheAudition}
 use Rattle.laws.proofs.Opening.{length-solo}
 use Rattle.laws.proofs.Theorems.{rows-open, rows-agree, no-lag, counted-once}
 
 -- the final own clocks that are answered for booth 1
 clocks : (clockOf m1 1 ≡ 6) × (clockOf m2 1 ≡ 6)
-unfolding
-    sessions lines entry
-    MarkedCases.tableWith MarkedCases.audition MarkedCases.logOf MarkedCases.entryOf MarkedCases.auditionLog MarkedCases.otherLog MarkedCases.lent
-    Bytes.bigEndian Bytes.numberAt
-    Refusals.refusal Refusals.refuseIf Refusals.firstFault
-    BoothTable.no-line BoothTable.tableN BoothTable.headerChecks BoothTable.jobsAt BoothTable.recordL BoothTable.recordEnd BoothTable.lineAt
-    BoothTable.lengthAllowed BoothTable.someZero BoothTable.lineChecks BoothTable.recordChecks BoothTable.withLine BoothTable.readRecords BoothTable.readLines
-    Admission.roundedUp Admission.askedAbove Admission.someUpTo Admission.passes Admission.firstFailing Admission.readTable
-    ArrivalLog.logN ArrivalLog.logH ArrivalLog.headChecks ArrivalLog.horizonChecks ArrivalLog.entryAt ArrivalLog.longestJobs ArrivalLog.entryChecks
-    ArrivalLog.withEntry ArrivalLog.readEntries ArrivalLog.withHorizon ArrivalLog.readLog
-    Due.due Due.releasePoint
-    Moves.noDemand Moves.addDemand Moves.isReady Moves.addReady Moves.stillWaiting Moves.gather Moves.earlier Moves.earliestPoint Moves.moveTo
-    Moves.settleRounds Moves.settle Moves.mayWork Moves.firstTask Moves.loseOne Moves.work Moves.worker Moves.turn Moves.settleAll Moves.play Moves.playTicks
-    Session.ownEntries Session.freshBooth Session.openBooths Session.settledAt Session.bufferChecks Session.played Session.session
+unfolding computing sessions lines entry MarkedCases.tableWith MarkedCases.audition MarkedCases.logOf MarkedCases.entryOf MarkedCases.auditionLog MarkedCases.otherLog MarkedCases.lent
 clocks = (refl, refl)
 
 there : (1 < booths m1) × (1 < booths m2)
@@ -47,6 +28,10 @@ there = (omega arith, omega arith)
 one-period : length ((settledOf m1 10 1) .row) ≡ 4
 unfolding sessions lines
 one-period = no-lag .whole-periods m1 1 (there .0) 1
+
+there-then : ThereAt m1 1 10 4
+unfolding sessions lines
+there-then = no-lag .bytes-at-periods m1 1 (there .0) 1 (omega arith)
 
 first-four : (settledOf m1 10 1) .row ≡ 1 ∷ 1 ∷ 0 ∷ 1 ∷ []
 unfolding sessions lines entry Due.due Due.releasePoint Session.ownEntries Session.count SoloPart.asked SoloPart.firstThat solo
@@ -64,8 +49,8 @@ unfolding sessions lines entry Session.ownEntries
 same-row =
     let n = min (clockOf m1 1) (clockOf m2 1) in
     sym (take-all n (rowOf m1 1) (omega (arith, clocks, counted-once .row-length m1 1 (there .0))))
-    ∙ rows-agree .rows m1 m2 1 1 (there .0) (there .1) (refl, refl) refl
+    ∙ rows-agree .rows m1 m2 1 1 (there .0) (there .1) refl refl
     ∙ take-all n (rowOf m2 1) (omega (arith, clocks, counted-once .row-length m2 1 (there .1)))
 
 pub the-audition : TheAudition
-the-audition = record { one-period = one-period; first-four = first-four; whole-row = whole-row; same-row = same-row }
+the-audition = record { one-period = one-period; there-then = there-then; first-four = first-four; whole-row = whole-row; same-row = same-row }

@@ -12,7 +12,7 @@ use lib.ListN.{length, getD}
 use borrow.Author.Tests.{ltb-false, leb-true, leb-false, eqb-false, not-false}
 use Rattle.base.specs.declared.Refusal.{Refusal}
 use Rattle.base.specs.Refusals.{Taken, taken, refused, refuseIf, firstFault, refusal, not-admitted}
-use Rattle.rules.specs.BoothTable.{Line, booths-allowed, longest-period, tableN, headerChecks, recordL, recordEnd, lineAt, lengthAllowed, lineChecks, recordChecks, withLine, readRecords, readLines}
+use Rattle.rules.specs.BoothTable.{Line, Placed, linesOf, booths-allowed, longest-period, tableN, headerChecks, recordL, recordEnd, lineAt, placedAt, lengthAllowed, lineChecks, recordChecks, withPlaced, readRecords, readLines}
 use Rattle.rules.specs.ArrivalLog.{Entry, Log, longest-session, entries-allowed, entry-bytes, logN, logH, headChecks, horizonChecks, entryAt, longestJobs, entryChecks, withEntry, readEntries, withHorizon, readLog}
 use Rattle.base.proofs.Checks.{neither}
 use Rattle.rules.proofs.Records.{length-jobs, allowed-range}
@@ -55,40 +55,40 @@ good-line bs at h =
 
 -- ---- the table
 
-with-line : (l : Line) (t : Taken (List Line)) (ls : List Line) → withLine l t ≡ taken ls → (ms : List Line) × (t ≡ taken ms) × (l ∷ ms ≡ ls)
-unfolding withLine
-with-line l (taken ms) ls e = (ms, refl, taken-once (l ∷ ms) ls e)
-with-line l (refused r) ls e = absurd (taken-or-refused ls r e)
+with-placed : (p : Placed) (t : Taken (List Placed)) (ps : List Placed) → withPlaced p t ≡ taken ps → (qs : List Placed) × (t ≡ taken qs) × (p ∷ qs ≡ ps)
+unfolding withPlaced
+with-placed p (taken qs) ps e = (qs, refl, taken-once (p ∷ qs) ps e)
+with-placed p (refused r) ps e = absurd (taken-or-refused ps r e)
 
 -- records read from a place, with room for so many
-record Records (room : ℕ) (bs : List ℕ) (at : ℕ) (ls : List Line) : Type 0 where
-  some : at < length bs → 1 ≤ length ls
-  few : length ls ≤ room
-  good : All GoodLine ls
+record Records (room : ℕ) (bs : List ℕ) (at : ℕ) (ps : List Placed) : Type 0 where
+  some : at < length bs → 1 ≤ length (linesOf ps)
+  few : length (linesOf ps) ≤ room
+  good : All GoodLine (linesOf ps)
 
 no-records : (room : ℕ) (bs : List ℕ) (at : ℕ) → leb (length bs) at ≡ true → Records room bs at []
 no-records room bs at q = record { some = λ h. absurd (omega (arith, leb-true (length bs) at q)); few = omega arith; good = tt }
 
-read-records : (room : ℕ) (bs : List ℕ) (at : ℕ) (ls : List Line) → readRecords room bs at ≡ taken ls → Records room bs at ls
-unfolding readRecords
-read-records zero bs at ls h = go (leb (length bs) at) refl
+read-records : (room : ℕ) (bs : List ℕ) (at : ℕ) (ps : List Placed) → readRecords room bs at ≡ taken ps → Records room bs at ps
+unfolding readRecords placedAt
+read-records zero bs at ps h = go (leb (length bs) at) refl
   where
-    go : (c : Bool) → leb (length bs) at ≡ c → Records 0 bs at ls
-    go true q = subst (Records 0 bs at) (taken-once [] ls (rw (q, readRecords) at h)) (no-records 0 bs at q)
-    go false q = absurd (taken-or-refused ls _ (rw (q, readRecords) at h))
-read-records (suc room) bs at ls h = go (λ ms e. read-records room bs (recordEnd bs at) ms e) (leb (length bs) at) refl (firstFault (recordChecks bs at)) refl
+    go : (c : Bool) → leb (length bs) at ≡ c → Records 0 bs at ps
+    go true q = subst (Records 0 bs at) (taken-once [] ps (rw (q, readRecords) at h)) (no-records 0 bs at q)
+    go false q = absurd (taken-or-refused ps _ (rw (q, readRecords) at h))
+read-records (suc room) bs at ps h = go (λ qs e. read-records room bs (recordEnd bs at) qs e) (leb (length bs) at) refl (firstFault (recordChecks bs at)) refl
   where
-    more : ((ms : List Line) → readRecords room bs (recordEnd bs at) ≡ taken ms → Records room bs (recordEnd bs at) ms) → firstFault (recordChecks bs at) ≡ none
-        → (ms : List Line) × (readRecords room bs (recordEnd bs at) ≡ taken ms) × (lineAt bs at ∷ ms ≡ ls) → Records (suc room) bs at ls
-    more ih f (ms, e, x) =
-        let r = ih ms e in
+    more : ((qs : List Placed) → readRecords room bs (recordEnd bs at) ≡ taken qs → Records room bs (recordEnd bs at) qs) → firstFault (recordChecks bs at) ≡ none
+        → (qs : List Placed) × (readRecords room bs (recordEnd bs at) ≡ taken qs) × (placedAt bs at ∷ qs ≡ ps) → Records (suc room) bs at ps
+    more ih f (qs, e, x) =
+        let r = ih qs e in
         subst (Records (suc room) bs at) x (record { some = λ k. omega arith; few = omega (arith, r .few); good = (good-line bs at f, r .good) })
 
-    go : ((ms : List Line) → readRecords room bs (recordEnd bs at) ≡ taken ms → Records room bs (recordEnd bs at) ms) → (c : Bool) → leb (length bs) at ≡ c
-        → (f : Option Refusal) → firstFault (recordChecks bs at) ≡ f → Records (suc room) bs at ls
-    go ih true q f p = subst (Records (suc room) bs at) (taken-once [] ls (rw (q, readRecords) at h)) (no-records (suc room) bs at q)
-    go ih false q (some r) p = absurd (taken-or-refused ls r (rw p at (rw (q, readRecords) at h)))
-    go ih false q none p = more ih p (with-line (lineAt bs at) (readRecords room bs (recordEnd bs at)) ls (rw p at (rw (q, readRecords) at h)))
+    go : ((qs : List Placed) → readRecords room bs (recordEnd bs at) ≡ taken qs → Records room bs (recordEnd bs at) qs) → (c : Bool) → leb (length bs) at ≡ c
+        → (f : Option Refusal) → firstFault (recordChecks bs at) ≡ f → Records (suc room) bs at ps
+    go ih true q f p = subst (Records (suc room) bs at) (taken-once [] ps (rw (q, readRecords) at h)) (no-records (suc room) bs at q)
+    go ih false q (some r) p = absurd (taken-or-refused ps r (rw p at (rw (q, readRecords) at h)))
+    go ih false q none p = more ih p (with-placed (placedAt bs at) (readRecords room bs (recordEnd bs at)) ps (rw p at (rw (q, readRecords) at h)))
 
 -- the lines of a table: 1 to 8 booths, each in range
 pub record Lines (ls : List Line) : Type 0 where
@@ -106,14 +106,14 @@ header-length bs h =
       positive (tableN bs) (eqb-false (tableN bs) 0 (p .1 .1 .1 .1 .1 .0)),
     )
 
-pub read-lines : (bs : List ℕ) (ls : List Line) → readLines bs ≡ taken ls → Lines ls
+pub read-lines : (bs : List ℕ) (ps : List Placed) → readLines bs ≡ taken ps → Lines (linesOf ps)
 unfolding readLines
-read-lines bs ls h = go (firstFault (headerChecks bs)) refl
+read-lines bs ps h = go (firstFault (headerChecks bs)) refl
   where
-    go : (f : Option Refusal) → firstFault (headerChecks bs) ≡ f → Lines ls
-    go (some r) q = absurd (taken-or-refused ls r (rw (q, readLines) at h))
+    go : (f : Option Refusal) → firstFault (headerChecks bs) ≡ f → Lines (linesOf ps)
+    go (some r) q = absurd (taken-or-refused ps r (rw (q, readLines) at h))
     go none q =
-        let r = read-records booths-allowed bs 3 ls (rw (q, readLines) at h) in
+        let r = read-records booths-allowed bs 3 ps (rw (q, readLines) at h) in
         record { some-booth = r .some (header-length bs q); few-booths = r .few; good = r .good }
 
 -- ---- no check of the table's bytes says 7
@@ -130,9 +130,9 @@ not-seven-record (suc room) bs at r h = go (λ e. not-seven-record room bs (reco
     says : (x : Refusal) → firstFault (recordChecks bs at) ≡ some x → x .number ≢ not-admitted
     says x p = not-said not-admitted (recordChecks bs at) x (unfold recordChecks lineChecks refuseIf refusal in omega arith) p
 
-    inner : (t : Taken (List Line)) → withLine (lineAt bs at) t ≡ refused r → t ≡ refused r
-    inner (taken ms) e = absurd (taken-or-refused (lineAt bs at ∷ ms) r (sym (unfold withLine in e)))
-    inner (refused x) e = unfold withLine in e
+    inner : (t : Taken (List Placed)) → withPlaced (placedAt bs at) t ≡ refused r → t ≡ refused r
+    inner (taken qs) e = absurd (taken-or-refused (placedAt bs at ∷ qs) r (sym (unfold withPlaced in e)))
+    inner (refused x) e = unfold withPlaced in e
 
     go : (readRecords room bs (recordEnd bs at) ≡ refused r → r .number ≢ not-admitted) → (c : Bool) → leb (length bs) at ≡ c
         → (f : Option Refusal) → firstFault (recordChecks bs at) ≡ f → r .number ≢ not-admitted

@@ -14,37 +14,30 @@ use Rattle.rules.specs.ArrivalLog.{Entry}
 use Rattle.rules.specs.Due.{due, releasePoint}
 use Rattle.rules.specs.Session.{count}
 use Rattle.rules.specs.SoloPart.{asked, firstThat, solo}
-use Rattle.laws.specs.Statements.{SameLine, asks}
+use Rattle.laws.specs.Statements.{asks}
 use Rattle.laws.proofs.Opening.{length-solo}
 
-asked-alike : (l m : Line) → SameLine l m → (es fs : List Entry) → asks es ≡ asks fs → (n k : ℕ) → asked l es n k ≡ asked m fs n k
+asked-alike : (l : Line) (es fs : List Entry) → asks es ≡ asks fs → (n k : ℕ) → asked l es n k ≡ asked l fs n k
 unfolding asked releasePoint
-asked-alike l m s [] [] h n k = refl
-asked-alike l m s [] (f ∷ fs) h n k = absurd (let z : _≡_ {A = ℕ} 0 1 = cc in omega arith)
-asked-alike l m s (e ∷ es) [] h n k = absurd (let z : _≡_ {A = ℕ} 0 1 = cc in omega arith)
-asked-alike l m s (e ∷ es) (f ∷ fs) h n k = go (eqb (e .task) k && leb (releasePoint l e) n) refl (asked-alike l m s es fs (cc) n k)
+asked-alike l [] [] h n k = refl
+asked-alike l [] (f ∷ fs) h n k = absurd (let z : _≡_ {A = ℕ} 0 1 = cc in omega arith)
+asked-alike l (e ∷ es) [] h n k = absurd (let z : _≡_ {A = ℕ} 0 1 = cc in omega arith)
+asked-alike l (e ∷ es) (f ∷ fs) h n k = go (eqb (e .task) k && leb (releasePoint l e) n) refl (asked-alike l es fs (cc) n k)
   where
     first : _≡_ {A = ℕ × ℕ × ℕ} (e .tick, e .task, e .demand) (f .tick, f .task, f .demand)
     first = cc
 
-    point : releasePoint m f ≡ releasePoint l e
-    point = ap (λ p. due p (f .tick)) (sym (s .0)) ∙ ap (λ x. due (l .promise) (x .0)) (sym first)
+    test : (eqb (f .task) k && leb (releasePoint l f) n) ≡ (eqb (e .task) k && leb (releasePoint l e) n)
+    test = ap (λ x. eqb (x .1) k && leb (due (l .promise) (x .0)) n) (sym first)
 
-    test : (eqb (f .task) k && leb (releasePoint m f) n) ≡ (eqb (e .task) k && leb (releasePoint l e) n)
-    test = ap (λ x. eqb (f .task) k && leb x n) point ∙ ap (λ x. eqb (x .1) k && leb (releasePoint l e) n) (sym first)
-
-    go : (c : Bool) → (eqb (e .task) k && leb (releasePoint l e) n) ≡ c → asked l es n k ≡ asked m fs n k → asked l (e ∷ es) n k ≡ asked m (f ∷ fs) n k
+    go : (c : Bool) → (eqb (e .task) k && leb (releasePoint l e) n) ≡ c → asked l es n k ≡ asked l fs n k → asked l (e ∷ es) n k ≡ asked l (f ∷ fs) n k
     go true q ih = rw (q, test ∙ q, asked) (omega (arith, ap (λ x. x .2) first))
     go false q ih = rw (q, test ∙ q, asked) ih
 
-pub solo-alike : (l m : Line) → SameLine l m → (es fs : List Entry) → asks es ≡ asks fs → (n : ℕ) → solo l es n ≡ solo m fs n
+pub solo-alike : (l : Line) (es fs : List Entry) → asks es ≡ asks fs → (n : ℕ) → solo l es n ≡ solo l fs n
 unfolding solo
-solo-alike l m s es fs h zero = refl
-solo-alike l m s es fs h (suc n) =
-    rw (solo-alike l m s es fs h n) (simp (asked-alike l m s es fs h n) (ap (λ (x : ℕ). solo m fs n ++ (firstThat test x 0 ∷ [])) (ap length (s .1))))
-  where
-    test : ℕ → Bool
-    test k = ltb (count k (solo m fs n)) (asked m fs n k)
+solo-alike l es fs h zero = refl
+solo-alike l es fs h (suc n) = rw (solo-alike l es fs h n) (simp (asked-alike l es fs h n))
 
 -- the first m own ticks of n are the first m
 pub take-solo : (l : Line) (es : List Entry) (m n : ℕ) → m ≤ n → take m (solo l es n) ≡ solo l es m

@@ -2,7 +2,7 @@
 use mathlib.Core.Path.{_≡_, sym, ap, _∙_, subst}
 use mathlib.Core.Logic.{_⊎_}
 use mathlib.Core.List.{List, [], _∷_, _++_}
-use Prim.Native.Nat.{ℕ, zero, suc, _+_, _*_, _≤_, _<_, min}
+use Prim.Native.Nat.{ℕ, zero, suc, _+_, _-_, _*_, _≤_, _<_, min}
 use native.Mathlib.Nat.{zero-add, not-suc-le-zero, le-of-suc-le-suc}
 use native.Mathlib.Omega.{arith}
 use lib.ListN.{length, getD, take}
@@ -11,10 +11,10 @@ use Rattle.rules.specs.ArrivalLog.{Entry}
 use Rattle.rules.specs.Moves.{nobody}
 use Rattle.rules.specs.Session.{count, settledAt}
 use Rattle.rules.specs.SoloPart.{solo}
-use Rattle.laws.specs.Statements.{GoodEntry, Accepted, outcome, booths, ticks, lineOf, entriesOf, clockOf, rowOf, settledOf, no-entry, WhatIsAccepted, Opening, SameLine, asks, Agreement, NoLag, total, demandOf, CountedOnce, Untouched, Pinned}
+use Rattle.laws.specs.Statements.{GoodEntry, Accepted, outcome, booths, ticks, lineOf, entriesOf, clockOf, rowOf, settledOf, no-entry, WhatIsAccepted, ThereAt, Opening, asks, Agreement, NoLag, total, demandOf, CountedOnce, Untouched, Pinned}
 use Rattle.laws.proofs.Entries.{Sorted}
 use Rattle.laws.proofs.Readers.{all-at}
-use Rattle.laws.proofs.Clocks.{whole-periods, never-ahead, never-behind}
+use Rattle.laws.proofs.Clocks.{whole-periods, never-ahead, never-back, never-behind}
 use Rattle.laws.proofs.Rows.{opened, opening, row-length, worked}
 use Rattle.laws.proofs.WallRecord.{in-range-at, all-counted, worked-at, length-worked, length-wall, wall-in-range}
 use Rattle.laws.proofs.SoloAlike.{solo-alike, take-solo}
@@ -57,12 +57,23 @@ module _ (s : Accepted) (i : ℕ) (there : i < booths s) where
   length-is : length (rowOf s i) ≡ clockOf s i
   length-is = ap length (row-is s i there) ∙ length-at (ticks s) ∙ sym (clock-is s i there)
 
+  there-at : (t : ℕ) → t ≤ ticks s → ThereAt s i t ((settledOf s t i) .u)
+  there-at t h =
+      let whole : t + (ticks s - t) ≡ ticks s = omega arith in
+      let later : (settledOf s t i) .u ≤ clockOf s i =
+      omega (arith, rw whole at (never-back (s .table) (s .log .entries) (as-read s) i there t (ticks s - t)), clock-is s i there) in
+      record {
+        answered = omega (arith, length-is);
+        first = ap (take ((settledOf s t i) .u)) row-opens ∙ take-solo (lineOf s i) (entriesOf s i) ((settledOf s t i) .u) (clockOf s i) later ∙ sym (row-at t);
+      }
+
 pub rows-open : Opening
 rows-open =
     record {
       row = row-opens;
       at-tick = row-at;
       final = λ s i h. (row-is s i h, clock-is s i h);
+      grows = there-at;
     }
 
 pub rows-agree : Agreement
@@ -72,12 +83,13 @@ rows-agree = record { rows = λ s z i j h k l e. agree s z i j h k l e }
     part : (s : Accepted) (i : ℕ) → i < booths s → (n : ℕ) → n ≤ clockOf s i → take n (rowOf s i) ≡ solo (lineOf s i) (entriesOf s i) n
     part s i h n k = ap (take n) (row-opens s i h) ∙ take-solo (lineOf s i) (entriesOf s i) n (clockOf s i) k
 
-    agree : (s z : Accepted) (i j : ℕ) → i < booths s → j < booths z → SameLine (lineOf s i) (lineOf z j) → asks (entriesOf s i) ≡ asks (entriesOf z j)
+    agree : (s z : Accepted) (i j : ℕ) → i < booths s → j < booths z → lineOf s i ≡ lineOf z j → asks (entriesOf s i) ≡ asks (entriesOf z j)
         → take (min (clockOf s i) (clockOf z j)) (rowOf s i) ≡ take (min (clockOf s i) (clockOf z j)) (rowOf z j)
     agree s z i j h k l e =
         let n = min (clockOf s i) (clockOf z j) in
         part s i h n (omega arith)
-        ∙ solo-alike (lineOf s i) (lineOf z j) l (entriesOf s i) (entriesOf z j) e n
+        ∙ solo-alike (lineOf s i) (entriesOf s i) (entriesOf z j) e n
+        ∙ ap (λ m. solo m (entriesOf z j) n) l
         ∙ sym (part z j k n (omega arith))
 
 pub no-lag : NoLag
@@ -88,6 +100,14 @@ no-lag =
       at-tick = λ s i h t. (
         omega (arith, length-at s i h t, never-ahead (s .table) (s .log .entries) (as-read s) i h t),
         omega (arith, length-at s i h t, never-behind (s .table) (s .log .entries) (as-read s) i h (passing s i h) t),
+      );
+      bytes-at-periods = λ s i h k e.
+          subst (ThereAt s i (k * (lineOf s i) .promise .period)) (whole-periods (s .table) (s .log .entries) (as-read s) i h (passing s i h) k) (there-at s i h _ e);
+      bytes-at-tick = λ s i h t e. (
+        (settledOf s t i) .u,
+        there-at s i h t e,
+        never-ahead (s .table) (s .log .entries) (as-read s) i h t,
+        never-behind (s .table) (s .log .entries) (as-read s) i h (passing s i h) t,
       );
     }
 

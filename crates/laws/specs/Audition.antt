@@ -3,23 +3,17 @@ use mathlib.Core.Path.{_≡_, refl}
 use mathlib.Core.List.{List, [], _∷_}
 use Prim.Native.Nat.{ℕ}
 use lib.ListN.{length}
-use Rattle.base.specs.Bytes
-use Rattle.base.specs.Refusals
-use Rattle.rules.specs.Verdicts
-use Rattle.rules.specs.BoothTable
 use Rattle.rules.specs.BoothTable.{Line}
-use Rattle.rules.specs.ArrivalLog
 use Rattle.rules.specs.ArrivalLog.{Entry}
-use Rattle.rules.specs.Admission
-use Rattle.rules.specs.Session
 use Rattle.rules.specs.MarkedCases
 use Rattle.rules.specs.MarkedCases.{audition, auditionLog, otherLog, lent}
-use Rattle.laws.specs.Statements.{Accepted, rowOf, settledOf}
+use Rattle.laws.specs.Statements.{Accepted, rowOf, settledOf, ThereAt}
+use Rattle.laws.specs.Computing.{computing}
 
 unfoldable pub lines : List Line
 lines =
-    record { promise = record { period = 5; allowance = 2 }; longest = 2 ∷ []; start = 3 }
-    ∷ record { promise = record { period = 10; allowance = 4 }; longest = 3 ∷ 4 ∷ []; start = 10 }
+    record { promise = record { period = 5; allowance = 2 }; longest = 2 ∷ [] }
+    ∷ record { promise = record { period = 10; allowance = 4 }; longest = 3 ∷ 4 ∷ [] }
     ∷ []
 
 unfoldable pub entry : ℕ → ℕ → ℕ → ℕ → Entry
@@ -27,17 +21,7 @@ entry tick booth task demand = record { tick = tick; booth = booth; task = task;
 
 -- the sessions of M1, the audition, and M2, the same without booth 0's entry
 unfoldable pub sessions : Accepted × Accepted
-unfolding
-    lines entry
-    MarkedCases.tableWith audition MarkedCases.logOf MarkedCases.entryOf auditionLog otherLog lent
-    Bytes.bigEndian Bytes.numberAt Bytes.written
-    Refusals.refusal Refusals.refuseIf Refusals.firstFault Verdicts.accepted Verdicts.refusedAs
-    BoothTable.no-line BoothTable.tableN BoothTable.headerChecks BoothTable.jobsAt BoothTable.recordL BoothTable.recordEnd BoothTable.lineAt
-    BoothTable.lengthAllowed BoothTable.someZero BoothTable.lineChecks BoothTable.recordChecks BoothTable.withLine BoothTable.readRecords BoothTable.readLines
-    Admission.roundedUp Admission.askedAbove Admission.someUpTo Admission.passes Admission.firstFailing Admission.readTable
-    ArrivalLog.logN ArrivalLog.logH ArrivalLog.headChecks ArrivalLog.horizonChecks ArrivalLog.entryAt ArrivalLog.longestJobs ArrivalLog.entryChecks
-    ArrivalLog.withEntry ArrivalLog.readEntries ArrivalLog.withHorizon ArrivalLog.readLog
-    Session.nothingDone Session.bufferChecks Session.played Session.session
+unfolding computing lines entry MarkedCases.tableWith audition MarkedCases.logOf MarkedCases.entryOf auditionLog otherLog lent
 sessions = (
   record {
     tableBytes = audition;
@@ -72,6 +56,8 @@ m2 = sessions .1
 pub record TheAudition : Type 0 where
   -- no lag: at wall tick 10, one whole period of booth 1, its row is 4 own ticks long
   pub one-period : length ((settledOf m1 10 1) .row) ≡ 4
+  -- and these are the first 4 bytes of the row that is answered
+  pub there-then : ThereAt m1 1 10 4
   -- opening: it is the first 4 of its solo part, 1101
   pub first-four : (settledOf m1 10 1) .row ≡ 1 ∷ 1 ∷ 0 ∷ 1 ∷ []
   -- opening at the end: the row that is answered is 1101..

@@ -8,9 +8,8 @@ use native.Mathlib.Numerals.{add-one}
 use native.Mathlib.Omega.{arith}
 use borrow.Author.Tests.{eq-eqb, ne-eqb, lt-ltb, le-ltb, le-leb, lt-leb, ltb-false}
 use lib.Dec.{lit<}
-use lib.IntN.{pos}
 use lib.Pow.{pow-pos}
-use lib.Ieee.{Float, binary64, mul, ofInt}
+use lib.Ieee.{Float}
 use lib.ListN.{length, take, getD, length-take}
 use lib.Seq.{take-suc}
 use Rattle.rules.specs.declared.Promise.{Promise}
@@ -26,7 +25,7 @@ use Rattle.rules.specs.Session.{count}
 use Rattle.rules.specs.Panel.{share, no-share, none-yet, below, at-ceiling, over, readingOf, panelRow, noPanel, panelChecks, panel}
 use Rattle.base.proofs.Checks.{passed}
 use Rattle.rules.proofs.Counting.{count-append, count-most}
-use Rattle.panel.specs.Exact.{ExactAtPowers, ExactPanel}
+use Rattle.panel.specs.Exact.{ExactShare, ExactAtPowers, ExactPanel}
 use Rattle.panel.proofs.Exact.{share-exact}
 
 -- ---- how often a number stands in one byte more
@@ -130,8 +129,8 @@ shown-exact table wall booth t ls q f k e =
     let some-ticks : t ≡ 0 → ⊥ = λ z. lt-irrefl 0 (subst (λ n. 0 < n) (sym e ∙ z) (pow-pos k)) in
     let got : (panel table wall booth t) .got ≡ share (count booth (take t wall)) t =
     ap (λ r. r .got) (panel-shown table wall booth t ls q f ∙ row-read ((getD ls booth no-line) .promise) (count booth (take t wall)) t some-ticks) in
-    ap (λ g. mul binary64 g (ofInt binary64 (pos t))) got
-    ∙ share-exact (count booth (take t wall)) t (below-all (le-trans (worked-le booth t wall) small)) (below-all small) k e
+    subst (ExactShare (count booth (take t wall)) t) (sym got)
+    (share-exact (count booth (take t wall)) t (below-all (le-trans (worked-le booth t wall) small)) (below-all small) k e)
   where
     below-all : {n : ℕ} → n ≤ 1000000 → n < 2 ^ 53
     below-all h = lt-of-le-of-lt h (lit< tt)

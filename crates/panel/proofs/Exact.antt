@@ -1,10 +1,10 @@
--- A share of a power of two loses nothing: the quotient times the divisor is the dividend again. Assumes nothing.
+-- A share of a power of two loses nothing: it has the value of the fraction, and times the divisor it is the dividend again. Assumes nothing.
 use mathlib.Core.Path.{_≡_, refl, sym, ap, _∙_, subst}
 use mathlib.Core.Bool.{Bool, true, false, cond, true≢false}
 use Prim.Native.Nat.{ℕ, suc, _+_, _-_, _*_, _^_, _≤_, _<_}
 use native.Mathlib.Nat.{mul-one, mul-assoc, mul-comm, mul-pos, mul-mul-mul-comm, le-trans, lt-of-lt-of-le, le-of-lt, zero-lt-suc, lt-irrefl}
 use native.Mathlib.Omega.{arith}
-use lib.IntN.{pos}
+use lib.IntN.{pos, negsuc}
 use borrow.Author.Tests.{ltb-true, ltb-false}
 use lib.Dec.{T, ltb, eqb, eqb→eq, not-T, lit≤}
 use lib.Pow.{pow-add, pow-pos, pow-mono, shl-lt}
@@ -17,7 +17,7 @@ use lib.Ieee.Exact.{HasValue, round-exact}
 use lib.Ieee.Back.{round-whole}
 use lib.Ieee.Scale.{round-same}
 use Rattle.rules.specs.Panel.{share}
-use Rattle.panel.specs.Exact.{ExactAtPowers}
+use Rattle.panel.specs.Exact.{ExactAtPowers, AThird}
 
 -- ---- an operation on two values that are not below 0 rounds the fraction that it makes of any two fractions equal to them
 
@@ -71,22 +71,28 @@ divided f k part K P =
     room : (p l e k : ℕ) → p ≤ e → p + (l - k) ≤ l + e
     room p l e k h = omega arith
 
--- the law, at any format: a part with no more digits than the format keeps, over 2 ^ k and times it again, is the part
-pub power-back : (f : Format) (k part : ℕ) → k ≤ prec f → part < 2 ^ prec f
-    → mul f (div f (ofInt f (pos part)) (ofInt f (pos (2 ^ k)))) (ofInt f (pos (2 ^ k))) ≡ ofInt f (pos part)
+-- the law, at any format: a part with no more digits than the format keeps, over 2 ^ k, keeps its value
+power-value : (f : Format) (k part : ℕ) → k ≤ prec f → part < 2 ^ prec f → HasValue (div f (ofInt f (pos part)) (ofInt f (pos (2 ^ k)))) false part (2 ^ k)
 unfolding ofInt
-power-back f k part K P =
+power-value f k part K P =
     let d = 2 ^ k in
     let x = round f false part 1 in
     let y = round f false d 1 in
     let one : 0 < 1 = zero-lt-suc 0 in
-    let vx : HasValue x false part 1 = round-whole f false part (le-of-lt P) in
-    let vy : HasValue y false d 1 = round-whole f false d (pow-mono K) in
     let q : div f x y ≡ round f false part d =
-    quotient f x y part 1 d 1 one one (pow-pos k) vx vy ∙ ap (λ z. round f false z (d * 1)) (mul-one part) ∙ ap (λ z. round f false part z) (mul-one d) in
-    ap (λ z. mul f z y) q
-    ∙ product f (round f false part d) y part d d 1 (pow-pos k) one (divided f k part K P) vy
-    ∙ round-same f false (part * d) (d * 1) part 1 (mul-pos (pow-pos k) one) one (mul-assoc part d 1)
+    quotient f x y part 1 d 1 one one (pow-pos k) (round-whole f false part (le-of-lt P)) (round-whole f false d (pow-mono K))
+    ∙ ap (λ z. round f false z (d * 1)) (mul-one part)
+    ∙ ap (λ z. round f false part z) (mul-one d) in
+    subst (λ z. HasValue z false part d) (sym q) (divided f k part K P)
+
+-- and what has the value of a share is, times the whole, the part
+times-back : (f : Format) (got : Float) (part whole : ℕ) → 0 < whole → whole ≤ 2 ^ prec f → HasValue got false part whole
+    → mul f got (ofInt f (pos whole)) ≡ ofInt f (pos part)
+unfolding ofInt
+times-back f got part d D W v =
+    let one : 0 < 1 = zero-lt-suc 0 in
+    product f got (round f false d 1) part d d 1 D one v (round-whole f false d W)
+    ∙ round-same f false (part * d) (d * 1) part 1 (mul-pos D one) one (mul-assoc part d 1)
 
 -- ---- the law of a share
 
@@ -102,5 +108,34 @@ pub share-exact : (part whole : ℕ) → part < 2 ^ 53 → whole < 2 ^ 53 → Ex
 unfolding share
 share-exact part whole P W k e =
     let K : k ≤ 53 = small-power k 53 (subst (λ z. z < 2 ^ 53) e W) in
-    subst (λ z. mul binary64 (div binary64 (ofInt binary64 (pos part)) (ofInt binary64 (pos z))) (ofInt binary64 (pos z)) ≡ ofInt binary64 (pos part)) (sym e)
-    (power-back binary64 k part K P)
+    let D : 0 < whole = subst (λ z. 0 < z) (sym e) (pow-pos k) in
+    let v : HasValue (share part whole) false part whole =
+    subst (λ z. HasValue (div binary64 (ofInt binary64 (pos part)) (ofInt binary64 (pos z))) false part z) (sym e) (power-value binary64 k part K P) in
+    record { value = v; times = times-back binary64 (share part whole) part whole D (le-of-lt W) v }
+
+-- ---- a third, computed
+
+-- the double nearest to a third: an odd number over 2 ^ 54
+abbrev third : Float
+third = fin false 6004799503160661 (negsuc 53)
+
+third-is : share 1 3 ≡ third
+unfolding share div ofInt round
+third-is = refl
+
+whole-is : (ofInt binary64 (pos 1) ≡ fin false 1 (pos 0)) × (ofInt binary64 (pos 3) ≡ fin false 3 (pos 0))
+unfolding ofInt round
+whole-is = (refl, refl)
+
+back-to-one : mul binary64 third (fin false 3 (pos 0)) ≡ fin false 1 (pos 0)
+unfolding mul round
+back-to-one = refl
+
+pub a-third : AThird
+a-third = record {
+  times = ap (λ x. mul binary64 x (ofInt binary64 (pos 3))) third-is ∙ ap (mul binary64 third) (whole-is .1) ∙ back-to-one ∙ sym (whole-is .0);
+  no-value = λ v. no (subst (λ x. HasValue x false 1 3) third-is v .1);
+}
+  where
+    no : 6004799503160661 * 1 * 3 ≡ 1 * 2 ^ 54 → ⊥
+    no e = omega (arith, e)

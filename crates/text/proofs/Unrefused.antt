@@ -17,8 +17,7 @@ use Rattle.rules.specs.ArrivalLog.{Log, readLog, logH}
 use Rattle.rules.specs.Admission.{readTable}
 use Rattle.rules.specs.Session.{Outcome, settledAt, nothingDone, played, session}
 use Rattle.laws.proofs.Run.{length-booths}
-use Rattle.laws.proofs.Readers.{read-lines}
-use Rattle.laws.proofs.Admitted.{read-table}
+use Rattle.laws.proofs.Admitted.{table-lines}
 use Rattle.arrivals.proofs.Entries.{accepted}
 use Rattle.session.proofs.ByCases.{table-refused, log-refused, wall-short, own-short, plays}
 
@@ -63,7 +62,7 @@ module _ (table log wall own : List ℕ) where
                 ap (λ o. length (o .clocks)) (plays table log wall own ls q l p w o),
                 length-map ((settledAt (l .horizon) ls (l .entries)) .booths) (λ b. b .u),
                 length-booths ls (l .entries) (l .horizon),
-                (read-lines table ls ((read-table table ls q) .0)) .few-booths,
+                (table-lines table ls q) .few-booths,
               );
         }
 
