@@ -12,6 +12,10 @@ use Rattle.laws.specs.Ordered.{Sorted}
 use Rattle.laws.proofs.Entries.{own-sorted}
 use Rattle.arrivals.specs.Places.{entriesFrom, waitingAt, Place, WholeLog}
 
+-- the first entry's place
+pub first-place : {bs : List ℕ} → WholeLog bs → Place bs 9
+first-place l = record { from = omega arith; inside = l .header; whole = l .whole }
+
 -- before the log's end a place has a whole entry, and behind it is a place
 pub whole-entry : (bs : List ℕ) (at : ℕ) → Place bs at → at < length bs → (at + 9 ≤ length bs) × Place bs (at + 9)
 whole-entry bs at p h = (omega (arith, p .whole), record { from = omega (arith, p .from); inside = omega (arith, p .whole); whole = omega (arith, p .whole) })
@@ -23,7 +27,7 @@ module _ (bs : List ℕ) (number at : ℕ) (p : Place bs at) where
       let none : (length bs - at) / 9 ≡ 0 = omega arith in
       rw none
 
-  entries-step : at < length bs → entriesFrom ((length bs - at) / 9) bs at ≡ entryAt bs at ∷ entriesFrom ((length bs - (at + 9)) / 9) bs (at + 9)
+  pub entries-step : at < length bs → entriesFrom ((length bs - at) / 9) bs at ≡ entryAt bs at ∷ entriesFrom ((length bs - (at + 9)) / 9) bs (at + 9)
   unfolding entriesFrom
   entries-step h =
       let more : (length bs - at) / 9 ≡ suc ((length bs - (at + 9)) / 9) = omega (arith, p .whole) in

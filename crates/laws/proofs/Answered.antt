@@ -131,7 +131,7 @@ module _ (s : Accepted) where
   pub lines-read : Lines ls
   lines-read = table-lines (s .tableBytes) ls (s .table-read)
 
-  pub log-is-read : LogRead ls (s .log)
+  pub log-is-read : LogRead ls (s .logBytes) (s .log)
   log-is-read = read-log ls (s .logBytes) (s .log) (s .log-read)
 
   pub good-line : (i : ℕ) → i < booths s → GoodLine (lineOf s i)

@@ -1,10 +1,10 @@
 -- What the readers guarantee of what they take. Assumes nothing.
-use mathlib.Core.Path.{_≡_, refl, subst}
+use mathlib.Core.Path.{_≡_, refl, sym, ap, _∙_, subst}
 use mathlib.Core.Logic.{_≢_}
 use mathlib.Core.Bool.{Bool, true, false}
 use mathlib.Core.List.{List, [], _∷_, _++_}
 use mathlib.Core.Option.{Option, none, some}
-use Prim.Native.Nat.{ℕ, zero, suc, _+_, _-_, _/_, _≤_, _<_}
+use Prim.Native.Nat.{ℕ, zero, suc, _+_, _-_, _*_, _/_, _≤_, _<_}
 use native.Mathlib.Nat.{not-suc-le-zero, le-of-suc-le-suc}
 use native.Mathlib.Omega.{arith}
 use lib.Dec.{leb, ltb, eqb}
@@ -13,10 +13,10 @@ use borrow.Author.Tests.{ltb-false, leb-true, leb-false, eqb-false, not-false}
 use Rattle.base.specs.declared.Refusal.{Refusal}
 use Rattle.base.specs.Refusals.{Taken, taken, refused, refuseIf, firstFault}
 use Rattle.rules.specs.BoothTable.{Line, Placed, linesOf, booths-allowed, longest-period, tableN, headerChecks, recordL, recordEnd, lineAt, placedAt, lengthAllowed, lineChecks, recordChecks, withPlaced, readRecords, readLines}
-use Rattle.rules.specs.ArrivalLog.{Entry, Log, longest-session, entries-allowed, entry-bytes, logH, headChecks, horizonChecks, entryAt, longestJobs, entryChecks, withEntry, readEntries, withHorizon, readLog}
+use Rattle.rules.specs.ArrivalLog.{Entry, Log, longest-session, entries-allowed, entry-bytes, logN, logH, headChecks, horizonChecks, entryAt, longestJobs, entryChecks, withEntry, readEntries, withHorizon, readLog}
 use Rattle.base.proofs.Checks.{neither}
 use Rattle.rules.proofs.Records.{length-jobs, allowed-range}
-use Rattle.laws.specs.Statements.{GoodLine, GoodEntry}
+use Rattle.laws.specs.Statements.{GoodLine, GoodEntry, no-entry}
 use Rattle.laws.proofs.Entries.{From, Sorted}
 use Rattle.laws.proofs.Checks.{taken-or-refused, taken-once, no-fault}
 
@@ -118,54 +118,81 @@ read-lines bs ps h = go (firstFault (headerChecks bs)) refl
 
 -- ---- the log
 
-good-entry : (ls : List Line) (H before : ℕ) (bs : List ℕ) (at : ℕ) → firstFault (entryChecks ls H before bs at) ≡ none
-    → GoodEntry ls H (entryAt bs at) × (before ≤ (entryAt bs at) .tick)
+-- an entry that passes its checks: all its bytes are there, it is in range, and not earlier than the one before
+pub record EntryPassed (ls : List Line) (H before : ℕ) (bs : List ℕ) (at : ℕ) : Type 0 where
+  pub whole : at + entry-bytes ≤ length bs
+  pub good : GoodEntry ls H (entryAt bs at)
+  pub later : before ≤ (entryAt bs at) .tick
+
+pub entry-passed : (ls : List Line) (H before : ℕ) (bs : List ℕ) (at : ℕ) → firstFault (entryChecks ls H before bs at) ≡ none → EntryPassed ls H before bs at
 unfolding entryChecks refuseIf
-good-entry ls H before bs at h =
+entry-passed ls H before bs at h =
     let p = no-fault (entryChecks ls H before bs at) h in
     let e = entryAt bs at in
     let jobs = longestJobs ls (e .booth) in
     let (late, early) = neither (leb H (e .tick)) (ltb (e .tick) before) (p .1 .1 .0) in
-    let (no-demand, much) = neither (eqb (e .demand) 0) (ltb (getD jobs (e .task) 0) (e .demand)) (p .1 .1 .1 .1 .1 .0) in (
-      record {
+    let (no-demand, much) = neither (eqb (e .demand) 0) (ltb (getD jobs (e .task) 0) (e .demand)) (p .1 .1 .1 .1 .1 .0) in
+    record {
+      whole = ltb-false (length bs) (at + entry-bytes) (p .1 .0);
+      good = record {
         tick = leb-false H (e .tick) late;
         booth = leb-false (length ls) (e .booth) (p .1 .1 .1 .0);
         task = leb-false (length jobs) (e .task) (p .1 .1 .1 .1 .0);
         some-demand = positive (e .demand) (eqb-false (e .demand) 0 no-demand);
         demand = ltb-false (getD jobs (e .task) 0) (e .demand) much;
-      },
-      ltb-false (e .tick) before early,
-    )
+      };
+      later = ltb-false (e .tick) before early;
+    }
 
 with-entry : (e : Entry) (t : Taken (List Entry)) (es : List Entry) → withEntry e t ≡ taken es → (fs : List Entry) × (t ≡ taken fs) × (e ∷ fs ≡ es)
 unfolding withEntry
 with-entry e (taken fs) es h = (fs, refl, taken-once (e ∷ fs) es h)
 with-entry e (refused r) es h = absurd (taken-or-refused es r h)
 
--- entries read after one at the tick `before`, with room for so many
-pub record Entries (room : ℕ) (ls : List Line) (H before : ℕ) (es : List Entry) : Type 0 where
+-- entries read from a place on after one at the tick `before`, with room for so many: they lie there one behind the other to the last byte
+pub record Entries (room : ℕ) (ls : List Line) (H before : ℕ) (bs : List ℕ) (at : ℕ) (es : List Entry) : Type 0 where
   pub few : length es ≤ room
   pub good : All (GoodEntry ls H) es
   pub after : From before es
   pub sorted : Sorted es
+  pub whole : length bs ≡ at + entry-bytes * length es
+  pub each : (i : ℕ) → i < length es → getD es i no-entry ≡ entryAt bs (at + entry-bytes * i)
 
-no-entries : (room : ℕ) (ls : List Line) (H before : ℕ) → Entries room ls H before []
-no-entries room ls H before = record { few = omega arith; good = tt; after = tt; sorted = tt }
+no-entries : (room : ℕ) (ls : List Line) (H before : ℕ) (bs : List ℕ) (at : ℕ) → length bs ≡ at → Entries room ls H before bs at []
+no-entries room ls H before bs at e =
+    record { few = omega arith; good = tt; after = tt; sorted = tt; whole = omega arith; each = λ i h. absurd (not-suc-le-zero h) }
 
 from-earlier : (s t : ℕ) (es : List Entry) → s ≤ t → From t es → From s es
 from-earlier s t [] h f = tt
 from-earlier s t (e ∷ es) h f = (omega (arith, f .0), from-earlier s t es h (f .1))
 
-read-entries : (room : ℕ) (ls : List Line) (H before : ℕ) (bs : List ℕ) (at : ℕ) (es : List Entry) → readEntries room ls H before bs at ≡ taken es
-    → Entries room ls H before es
-unfolding readEntries
-read-entries zero ls H before bs at es h = go (leb (length bs) at) refl
+-- one entry before those
+one-more : (room : ℕ) (ls : List Line) (H before : ℕ) (bs : List ℕ) (at : ℕ) (es : List Entry) → EntryPassed ls H before bs at
+    → Entries room ls H ((entryAt bs at) .tick) bs (at + entry-bytes) es → Entries (suc room) ls H before bs at (entryAt bs at ∷ es)
+one-more room ls H before bs at es p r =
+    record {
+      few = omega (arith, r .few);
+      good = (p .good, r .good);
+      after = (p .later, from-earlier before ((entryAt bs at) .tick) es (p .later) (r .after));
+      sorted = (r .after, r .sorted);
+      whole = omega (arith, r .whole);
+      each = each;
+    }
   where
-    go : (c : Bool) → leb (length bs) at ≡ c → Entries 0 ls H before es
-    go true q = subst (Entries 0 ls H before) (taken-once [] es (rw (q, readEntries) at h)) (no-entries 0 ls H before)
+    each : (i : ℕ) → i < suc (length es) → getD (entryAt bs at ∷ es) i no-entry ≡ entryAt bs (at + entry-bytes * i)
+    each zero h = ap (entryAt bs) (omega arith)
+    each (suc i) h = r .each i (le-of-suc-le-suc h) ∙ ap (entryAt bs) (omega arith)
+
+read-entries : (room : ℕ) (ls : List Line) (H before : ℕ) (bs : List ℕ) (at : ℕ) (es : List Entry) → at ≤ length bs → readEntries room ls H before bs at ≡ taken es
+    → Entries room ls H before bs at es
+unfolding readEntries
+read-entries zero ls H before bs at es inside h = go (leb (length bs) at) refl
+  where
+    go : (c : Bool) → leb (length bs) at ≡ c → Entries 0 ls H before bs at es
+    go true q = subst (Entries 0 ls H before bs at) (taken-once [] es (rw (q, readEntries) at h)) (no-entries 0 ls H before bs at (omega (arith, leb-true (length bs) at q)))
     go false q = absurd (taken-or-refused es _ (rw (q, readEntries) at h))
-read-entries (suc room) ls H before bs at es h =
-    go (λ fs x. read-entries room ls H (e .tick) bs (at + entry-bytes) fs x) (leb (length bs) at) refl (firstFault (entryChecks ls H before bs at)) refl
+read-entries (suc room) ls H before bs at es inside h =
+    go (λ fs. read-entries room ls H (e .tick) bs (at + entry-bytes) fs) (leb (length bs) at) refl (firstFault (entryChecks ls H before bs at)) refl
   where
     e : Entry
     e = entryAt bs at
@@ -173,43 +200,55 @@ read-entries (suc room) ls H before bs at es h =
     rest : Taken (List Entry)
     rest = readEntries room ls H (e .tick) bs (at + entry-bytes)
 
-    more : ((fs : List Entry) → rest ≡ taken fs → Entries room ls H (e .tick) fs) → firstFault (entryChecks ls H before bs at) ≡ none
-        → (fs : List Entry) × (rest ≡ taken fs) × (e ∷ fs ≡ es) → Entries (suc room) ls H before es
-    more ih f (fs, x, y) =
-        let r = ih fs x in
-        let (g, b) = good-entry ls H before bs at f in
-        subst (Entries (suc room) ls H before) y (record {
-          few = omega (arith, r .few);
-          good = (g, r .good);
-          after = (b, from-earlier before (e .tick) fs b (r .after));
-          sorted = (r .after, r .sorted);
-        })
+    Rest : Type 0
+    Rest = (fs : List Entry) → at + entry-bytes ≤ length bs → rest ≡ taken fs → Entries room ls H (e .tick) bs (at + entry-bytes) fs
 
-    go : ((fs : List Entry) → rest ≡ taken fs → Entries room ls H (e .tick) fs) → (c : Bool) → leb (length bs) at ≡ c
-        → (f : Option Refusal) → firstFault (entryChecks ls H before bs at) ≡ f → Entries (suc room) ls H before es
-    go ih true q f p = subst (Entries (suc room) ls H before) (taken-once [] es (rw (q, readEntries) at h)) (no-entries (suc room) ls H before)
+    more : Rest → firstFault (entryChecks ls H before bs at) ≡ none → (fs : List Entry) × (rest ≡ taken fs) × (e ∷ fs ≡ es) → Entries (suc room) ls H before bs at es
+    more ih f (fs, x, y) =
+        let p = entry-passed ls H before bs at f in
+        subst (Entries (suc room) ls H before bs at) y (one-more room ls H before bs at fs p (ih fs (p .whole) x))
+
+    go : Rest → (c : Bool) → leb (length bs) at ≡ c → (f : Option Refusal) → firstFault (entryChecks ls H before bs at) ≡ f → Entries (suc room) ls H before bs at es
+    go ih true q f p =
+        subst (Entries (suc room) ls H before bs at) (taken-once [] es (rw (q, readEntries) at h))
+        (no-entries (suc room) ls H before bs at (omega (arith, leb-true (length bs) at q)))
     go ih false q (some r) p = absurd (taken-or-refused es r (rw p at (rw (q, readEntries) at h)))
     go ih false q none p = more ih p (with-entry e rest es (rw p at (rw (q, readEntries) at h)))
 
--- a log over the lines of its table: H up to 1,000,000, at most 4,096 entries in order, each in range
-pub record LogRead (ls : List Line) (log : Log) : Type 0 where
+-- a log over the lines of its table: H up to 1,000,000, at most 4,096 entries in order, each in range, as they lie in the log's bytes
+pub record LogRead (ls : List Line) (bs : List ℕ) (log : Log) : Type 0 where
+  pub ticks : log .horizon ≡ logH bs
   pub short : log .horizon ≤ longest-session
   pub few-entries : length (log .entries) ≤ entries-allowed
   pub good : All (GoodEntry ls (log .horizon)) (log .entries)
   pub sorted : Sorted (log .entries)
+  pub whole : length bs ≡ 9 + entry-bytes * length (log .entries)
+  pub each : (i : ℕ) → i < length (log .entries) → getD (log .entries) i no-entry ≡ entryAt bs (9 + entry-bytes * i)
 
-horizon-short : (bs : List ℕ) → firstFault (headChecks bs ++ horizonChecks bs) ≡ none → logH bs ≤ longest-session
+header-passed : (bs : List ℕ) → firstFault (headChecks bs ++ horizonChecks bs) ≡ none → (9 ≤ length bs) × (logH bs ≤ longest-session)
 unfolding headChecks horizonChecks refuseIf
-horizon-short bs h = let p = no-fault (headChecks bs ++ horizonChecks bs) h in ltb-false longest-session (logH bs) (p .1 .1 .1 .1 .1 .1 .1 .0)
+header-passed bs h =
+    let p = no-fault (headChecks bs ++ horizonChecks bs) h in (
+      omega (arith, ltb-false (length bs) (5 + logN bs) (p .1 .1 .1 .0), ltb-false (logN bs) 4 (p .1 .1 .1 .1 .1 .0)),
+      ltb-false longest-session (logH bs) (p .1 .1 .1 .1 .1 .1 .1 .0),
+    )
 
-pub read-log : (ls : List Line) (bs : List ℕ) (log : Log) → readLog ls bs ≡ taken log → LogRead ls log
+pub read-log : (ls : List Line) (bs : List ℕ) (log : Log) → readLog ls bs ≡ taken log → LogRead ls bs log
 unfolding readLog withHorizon
 read-log ls bs log h = go (firstFault (headChecks bs ++ horizonChecks bs)) refl (readEntries entries-allowed ls (logH bs) 0 bs 9) refl
   where
-    go : (f : Option Refusal) → firstFault (headChecks bs ++ horizonChecks bs) ≡ f → (t : Taken (List Entry)) → readEntries entries-allowed ls (logH bs) 0 bs 9 ≡ t → LogRead ls log
+    go : (f : Option Refusal) → firstFault (headChecks bs ++ horizonChecks bs) ≡ f → (t : Taken (List Entry)) → readEntries entries-allowed ls (logH bs) 0 bs 9 ≡ t → LogRead ls bs log
     go (some r) q t p = absurd (taken-or-refused log r (rw (q, readLog) at h))
     go none q (refused r) p = absurd (taken-or-refused log r (rw p at (rw (q, readLog) at h)))
     go none q (taken es) p =
-        let r = read-entries entries-allowed ls (logH bs) 0 bs 9 es p in
-        subst (LogRead ls) (taken-once (record { horizon = logH bs; entries = es }) log (rw p at (rw (q, readLog) at h)))
-        (record { short = horizon-short bs q; few-entries = r .few; good = r .good; sorted = r .sorted })
+        let r = read-entries entries-allowed ls (logH bs) 0 bs 9 es ((header-passed bs q) .0) p in
+        subst (LogRead ls bs) (taken-once (record { horizon = logH bs; entries = es }) log (rw p at (rw (q, readLog) at h)))
+        (record {
+          ticks = refl;
+          short = (header-passed bs q) .1;
+          few-entries = r .few;
+          good = r .good;
+          sorted = r .sorted;
+          whole = r .whole;
+          each = r .each;
+        })

@@ -1,5 +1,5 @@
-pub mod Waiting
+pub mod Asking
 pub mod FirstTask
 pub mod Playing
-pub mod Cases
+pub mod Calls
 pub mod OneBooth

@@ -15,7 +15,7 @@ use Rattle.rules.specs.declared.Line.{Line as HeldLine}
 use Rattle.rules.specs.declared.OwnTick.{OwnTick}
 use Rattle.base.specs.Bytes.{written}
 use Rattle.rules.specs.BoothTable.{Line}
-use Rattle.rules.specs.ArrivalLog.{Entry}
+use Rattle.rules.specs.ArrivalLog.{Entry, entryAt}
 use Rattle.rules.specs.Due.{releasePoint}
 use Rattle.rules.specs.Moves.{nobody}
 use Rattle.rules.specs.Session.{count}
@@ -25,8 +25,10 @@ use Rattle.rules.proofs.Counting.{count-nil, count-append, count-same, count-ot
 use Rattle.laws.proofs.Opening.{length-solo}
 use Rattle.laws.proofs.LentRows.{length-written}
 use Rattle.solo.specs.declared.Player.{Player}
-use Rattle.solo.specs.Alone.{Alone, Point, Plays, Admitted, Passed, entriesIn, entryOf, waiting, ownIn, ownTick, never}
-use Rattle.solo.proofs.Waiting.{waiting-own, waiting-other, asked-task, asked-elsewhere, none-asked}
+use Rattle.solo.specs.Alone.{Alone, Point, Plays, Admitted, Passed, ownTick, never}
+use Rattle.arrivals.specs.Places.{waitingAt, Place}
+use Rattle.arrivals.proofs.Places.{first-place, whole-entry, waiting-own, waiting-other}
+use Rattle.solo.proofs.Asking.{asked-task, asked-elsewhere, none-asked}
 use Rattle.rules.proofs.FirstThat.{found, alike}
 
 -- a store at one task
@@ -38,31 +40,31 @@ module _ (bs : List ℕ) (line : HeldLine) (booth : ℕ) (a : Alone bs line boot
   l = lineHeld line
 
   abbrev es : List Entry
-  es = ownIn bs booth
+  es = waitingAt bs booth 9
 
-  pub starts : (point : OwnTick) (left : List ℕ) → Point bs line 0 (point .0) → length left ≡ 8 → ((k : ℕ) → getD left k 0 ≡ 0)
-      → Plays bs line booth 0 (record { next = 0; point = point; left = left })
-  unfolding ownIn solo
+  pub starts : (point : OwnTick) (left : List ℕ) → Point bs line 9 (point .0) → length left ≡ 8 → ((k : ℕ) → getD left k 0 ≡ 0)
+      → Plays bs line booth 0 (record { next = 9; point = point; left = left })
+  unfolding solo
   starts point left p e z = record {
-    place = omega arith;
+    place = first-place (a .log);
     point = p;
     eight = e;
-    room = λ k. omega (arith, z k, a .log .few);
+    room = λ k. omega (arith, z k, a .log .short);
     sums = λ n k h j. omega (arith, z k, count-nil k);
   }
 
   -- ---- an entry whose point is reached
 
-  pub there : (u : ℕ) (p : Player) → Plays bs line booth u p → p .point .0 ≤ u → u < never → p .next < entriesIn bs
-  there u p plays reached early = go (decLe (entriesIn bs) (p .next))
+  pub there : (u : ℕ) (p : Player) → Plays bs line booth u p → p .point .0 ≤ u → u < never → p .next < length bs
+  there u p plays reached early = go (decLe (length bs) (p .next))
     where
-      go : Dec (entriesIn bs ≤ p .next) → p .next < entriesIn bs
+      go : Dec (length bs ≤ p .next) → p .next < length bs
       go (yes h) = absurd (omega (arith, plays .point .none h))
       go (no h) = omega arith
 
-  module _ (u : ℕ) (p r : Player) (plays : Plays bs line booth u p) (reached : p .point .0 ≤ u) (inside : p .next < entriesIn bs) (passed : Passed bs line booth p r) where
+  module _ (u : ℕ) (p r : Player) (plays : Plays bs line booth u p) (reached : p .point .0 ≤ u) (inside : p .next < length bs) (passed : Passed bs line booth p r) where
     abbrev e : Entry
-    e = entryOf bs (p .next)
+    e = entryAt bs (p .next)
 
     abbrev asks-task : ℕ
     asks-task = getD (p .left) (e .task) 0 + e .demand
@@ -72,38 +74,38 @@ module _ (bs : List ℕ) (line : HeldLine) (booth : ℕ) (a : Alone bs line boot
     Kept =
         (length (r .left) ≡ 8)
         × ((k : ℕ) → getD (r .left) k 0 ≤ getD (p .left) k 0 + 65535)
-        × ((n k : ℕ) → u ≤ n → getD (r .left) k 0 + asked l (waiting bs booth (p .next + 1)) n k ≡ getD (p .left) k 0 + asked l (waiting bs booth (p .next)) n k)
+        × ((n k : ℕ) → u ≤ n → getD (r .left) k 0 + asked l (waitingAt bs booth (p .next + 9)) n k ≡ getD (p .left) k 0 + asked l (waitingAt bs booth (p .next)) n k)
 
     kept-own : e .booth ≡ booth → Kept
     unfolding Kept releasePoint lineHeld
     kept-own own = (
-      ap length (passed .own own) ∙ length-set (p .left) (e .task) asks-task ∙ plays .eight,
+      ap length (passed .own own .1) ∙ length-set (p .left) (e .task) asks-task ∙ plays .eight,
       (λ k. more k (ℕ-discrete k (e .task))),
       λ n k h. sums n k h (ℕ-discrete k (e .task)),
     )
       where
         within : e .task < length (p .left)
-        within = omega (arith, a .task (p .next) inside own, a .tasks, plays .eight)
+        within = omega (arith, a .task (p .next) (plays .place) inside own, a .tasks, plays .eight)
 
         here : (k : ℕ) → k ≡ e .task → getD (r .left) k 0 ≡ getD (p .left) k 0 + e .demand
         here k q =
-            ap (λ xs. getD xs k 0) (passed .own own) ∙ (stored (p .left) (e .task) asks-task k within) .0 q ∙ ap (λ j. getD (p .left) j 0 + e .demand) (sym q)
+            ap (λ xs. getD xs k 0) (passed .own own .1) ∙ (stored (p .left) (e .task) asks-task k within) .0 q ∙ ap (λ j. getD (p .left) j 0 + e .demand) (sym q)
 
         elsewhere : (k : ℕ) → k ≢ e .task → getD (r .left) k 0 ≡ getD (p .left) k 0
-        elsewhere k q = ap (λ xs. getD xs k 0) (passed .own own) ∙ (stored (p .left) (e .task) asks-task k within) .1 q
+        elsewhere k q = ap (λ xs. getD xs k 0) (passed .own own .1) ∙ (stored (p .left) (e .task) asks-task k within) .1 q
 
         more : (k : ℕ) → Dec (k ≡ e .task) → getD (r .left) k 0 ≤ getD (p .left) k 0 + 65535
-        more k (yes q) = omega (arith, here k q, a .demand (p .next) inside)
+        more k (yes q) = omega (arith, here k q, passed .own own .0)
         more k (no q) = omega (arith, elsewhere k q)
 
-        now-waiting : (n k : ℕ) → asked l (waiting bs booth (p .next)) n k ≡ asked l (e ∷ waiting bs booth (p .next + 1)) n k
-        now-waiting n k = ap (λ xs. asked l xs n k) (waiting-own bs booth (p .next) inside own)
+        now-waiting : (n k : ℕ) → asked l (waitingAt bs booth (p .next)) n k ≡ asked l (e ∷ waitingAt bs booth (p .next + 9)) n k
+        now-waiting n k = ap (λ xs. asked l xs n k) (waiting-own bs booth (p .next) (plays .place) inside own)
 
         sums : (n k : ℕ) → u ≤ n → Dec (k ≡ e .task)
-            → getD (r .left) k 0 + asked l (waiting bs booth (p .next + 1)) n k ≡ getD (p .left) k 0 + asked l (waiting bs booth (p .next)) n k
+            → getD (r .left) k 0 + asked l (waitingAt bs booth (p .next + 9)) n k ≡ getD (p .left) k 0 + asked l (waitingAt bs booth (p .next)) n k
         sums n k h (yes q) =
-            omega (arith, here k q, now-waiting n k, asked-task l e (waiting bs booth (p .next + 1)) n k (omega (arith, plays .point .some inside)) (sym q))
-        sums n k h (no q) = omega (arith, elsewhere k q, now-waiting n k, asked-elsewhere l e (waiting bs booth (p .next + 1)) n k (λ z. q (sym z)))
+            omega (arith, here k q, now-waiting n k, asked-task l e (waitingAt bs booth (p .next + 9)) n k (omega (arith, plays .point .some inside)) (sym q))
+        sums n k h (no q) = omega (arith, elsewhere k q, now-waiting n k, asked-elsewhere l e (waitingAt bs booth (p .next + 9)) n k (λ z. q (sym z)))
 
     kept-other : e .booth ≢ booth → Kept
     unfolding Kept
@@ -111,7 +113,7 @@ module _ (bs : List ℕ) (line : HeldLine) (booth : ℕ) (a : Alone bs line boot
         let left : r .left ≡ p .left = passed .other o in (
           ap length left ∙ plays .eight,
           (λ k. omega (arith, ap (λ xs. getD xs k 0) left)),
-          λ n k h. omega (arith, ap (λ xs. getD xs k 0) left, ap (λ xs. asked l xs n k) (waiting-other bs booth (p .next) inside o)),
+          λ n k h. omega (arith, ap (λ xs. getD xs k 0) left, ap (λ xs. asked l xs n k) (waiting-other bs booth (p .next) (plays .place) inside o)),
         )
 
     kept : Dec (e .booth ≡ booth) → Kept
@@ -122,12 +124,13 @@ module _ (bs : List ℕ) (line : HeldLine) (booth : ℕ) (a : Alone bs line boot
     unfolding Kept
     plays-on =
         let k = kept (ℕ-discrete (e .booth) booth) in
+        let whole = whole-entry bs (p .next) (plays .place) inside in
         record {
-          place = omega (arith, passed .next);
+          place = subst (Place bs) (sym (passed .next)) (whole .1);
           point = subst (λ i. Point bs line i (r .point .0)) (sym (passed .next)) (passed .point);
           eight = k .0;
-          room = λ j. omega (arith, passed .next, k .1 j, plays .room j);
-          sums = λ n j h i. omega (arith, plays .sums n j h i, k .2 n j h, ap (λ x. asked l (waiting bs booth x) n j) (passed .next));
+          room = λ j. omega (arith, passed .next, whole .0, k .1 j, plays .room j);
+          sums = λ n j h i. omega (arith, plays .sums n j h i, k .2 n j h, ap (λ x. asked l (waitingAt bs booth x) n j) (passed .next));
         }
 
   -- ---- one own tick

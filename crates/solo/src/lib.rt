@@ -10,10 +10,12 @@ ghost use Rattle.base.specs.Refusals.{firstFault, faultOf};
 ghost use Rattle.rules.specs.SoloPart as page;
 ghost use Rattle.rules.specs.Values.{lineHeld, linesHeld};
 ghost use Rattle.table.specs.Fit.{FitTable, Sounds};
-ghost use Rattle.solo.specs.Alone.{Alone, WholeLog, Point, Plays, Admitted, Passed, entriesIn, ownIn, ownTick};
-use arrivals::Entry;
+ghost use Rattle.arrivals.specs.Places.{Place, waitingAt};
+ghost use Rattle.solo.specs.Alone.{Alone, Point, Plays, Admitted, Passed, ownTick};
+use arrivals::FIRST_ENTRY;
 use base::Fault;
 use base::Refusal;
+use rules::ENTRY_BYTES;
 use rules::Line;
 use rules::OwnTick;
 use rules::Refused;
@@ -29,32 +31,24 @@ const NEVER: u32 = 4294967295;
 
 // A booth that plays alone. Ticks never fall, so release points never do, and the place in the log only moves on.
 struct Player {
-    // The log's first entry that is not passed yet, and its release point.
+    // Where the log's first entry that is not passed yet lies, and its release point.
     next: usize,
     point: OwnTick,
     // What each task was asked and has not played.
     left: [u32; TASKS_ALLOWED],
 }
 
-// An entry is released at due of its wall tick, which is converted here and nowhere again.
-fn release_point(line: Line, entry: Entry) -> OwnTick
-    requires { ⌜ Sounds (line .promise) ⌝ }
-    ensures { λ r. ⌜ r .0 ≡ due (line .promise) (entry .tick .0) ⌝ }
+// The release point by this line of the entry at a place: due of its wall tick, which is converted here and nowhere again. Never, at the log's end.
+fn point_of(log: &[u8], line: Line, at: usize) -> OwnTick
+    requires { ⌜ Sounds (line .promise) × Place (now log) at ⌝ }
+    ensures { λ r. ⌜ Point (now (log .entry)) line at (r .0) ⌝ }
 {
-    let promise = line.promise;
-    rules::due(promise, entry.tick)
-}
-
-// The release point of the log's entry i by this line; never, where there is no such entry.
-fn point_of(log: &[u8], line: Line, i: usize) -> OwnTick
-    requires { ⌜ Sounds (line .promise) × WholeLog (now log) × (i ≤ entriesIn (now log)) ⌝ }
-    ensures { λ r. ⌜ Point (now (log .entry)) line i (r .0) ⌝ }
-{
-    if log.len() < 18 + 9 * i {
+    if log.len() <= at {
         return OwnTick(NEVER);
     }
-    let entry = arrivals::entry_of(log, i);
-    release_point(line, entry)
+    let promise = line.promise;
+    let tick = arrivals::entry_tick(log, at);
+    rules::due(promise, tick)
 }
 
 // The first task with something left to play; nobody, with none.
@@ -75,17 +69,16 @@ fn first_left(left: [u32; TASKS_ALLOWED], tasks: usize) -> usize
 impl Player {
     // The next entry is passed, and asks its task if it is the booth's.
     fn pass(mut self, log: &[u8], booth: usize, line: Line) -> Self
-        requires { ⌜ Alone (now log) line booth × (self .next < entriesIn (now log)) × (length (self .left) ≡ 8) × ((k : ℕ) → getD (self .left) k 0 ≤ 65535 * 4096) ⌝ }
+        requires { ⌜ Alone (now log) line booth × Place (now log) (self .next) × (self .next < length (now log)) × (length (self .left) ≡ 8) × ((k : ℕ) → getD (self .left) k 0 ≤ 65535 * 4097) ⌝ }
         ensures { λ r. ⌜ Passed (now (log .entry)) line booth self r ⌝ }
     {
-        let i = self.next;
-        let entry = arrivals::entry_of(log, i);
-        self.next = i + 1;
-        let point = point_of(log, line, i + 1);
+        let at = self.next;
+        self.next = at + ENTRY_BYTES;
+        let point = point_of(log, line, at + ENTRY_BYTES);
         self.point = point;
-        if entry.booth == booth {
-            let task = entry.task;
-            self.left[task] = self.left[task] + entry.demand;
+        if arrivals::entry_booth(log, at) == booth {
+            let task = arrivals::entry_task(log, at);
+            self.left[task] = self.left[task] + arrivals::entry_demand(log, at);
         }
         self
     }
@@ -105,7 +98,7 @@ impl Player {
     fn play(mut self, log: &[u8], booth: usize, line: Line, u: OwnTick, part: &mut [u8]) -> Self
         requires { ⌜ Alone (now log) line booth × Plays (now log) line booth (u .0) self × (u .0 < 1000000) × (u .0 < length (now part)) ⌝ }
         ensures plays { λ r. ⌜ Plays (now (log .entry)) line booth (u .0 + 1) r ⌝ }
-        ensures byte { λ r. ⌜ now (part .exit) ≡ set (now (part .entry)) (u .0) (ownTick (lineHeld line) (ownIn (now (log .entry)) booth) (u .0)) ⌝ }
+        ensures byte { λ r. ⌜ now (part .exit) ≡ set (now (part .entry)) (u .0) (ownTick (lineHeld line) (waitingAt (now (log .entry)) booth 9) (u .0)) ⌝ }
     {
         self = self.admit(log, booth, line, u);
         let left = self.left;
@@ -121,12 +114,12 @@ impl Player {
 // The first `n` own ticks, one behind the other.
 fn write_part(log: &[u8], booth: usize, line: Line, n: OwnTick, part: &mut [u8])
     requires { ⌜ Alone (now log) line booth × (n .0 ≤ 1000000) × (n .0 ≤ length (now part)) ⌝ }
-    ensures { λ r. ⌜ now (part .exit) ≡ written 0 (page.solo (lineHeld line) (ownIn (now (log .entry)) booth) (n .0)) (now (part .entry)) ⌝ }
+    ensures { λ r. ⌜ now (part .exit) ≡ written 0 (page.solo (lineHeld line) (waitingAt (now (log .entry)) booth 9) (n .0)) (now (part .entry)) ⌝ }
 {
-    let point = point_of(log, line, 0);
+    let point = point_of(log, line, FIRST_ENTRY);
     let left = [0u32; TASKS_ALLOWED];
     let mut player = Player {
-        next: 0,
+        next: FIRST_ENTRY,
         point,
         left,
     };

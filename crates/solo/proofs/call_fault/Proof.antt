@@ -8,7 +8,7 @@ use Rattle.rules.specs.Due.{due}
 use Rattle.base.specs.Refusals.{faultOf}
 use Rattle.rules.specs.Values.{linesHeld}
 use Rattle.table.proofs.Test.{lines-in}
-use Rattle.solo.proofs.Cases.{promise-in, call-absent, call-many, call-long, call-fits}
+use Rattle.solo.proofs.Calls.{promise-in, call-absent, call-many, call-long, call-fits}
 use borrow.Author.Needs.{needs}
 use Rattle.solo.proofs.call_fault.Statement.{statement}
 use Rattle.solo.proofs.call_fault.Tie as tie

@@ -15,9 +15,9 @@ use Rattle.base.proofs.Checks.{nothing-found, fault-found}
 use Rattle.rules.proofs.Held.{lines-held}
 use Rattle.table.proofs.Numbers.{answer-taken, answer-refused}
 use Rattle.arrivals.proofs.Numbers.{Took, number-zero, number-not-zero}
-use Rattle.solo.specs.Alone.{ownIn}
+use Rattle.arrivals.specs.Places.{waitingAt}
 use Rattle.table.proofs.Test.{lines-in, line-in}
-use Rattle.solo.proofs.Cases.{Fits, call-passed, bad-table, bad-log, bad-call, part-written}
+use Rattle.solo.proofs.Calls.{Fits, call-passed, bad-table, bad-log, bad-call, part-written}
 use Rattle.solo.proofs.OneBooth.{own-are, alone, due-small}
 use borrow.Author.Needs.{needs}
 use Rattle.solo.proofs.solo_part.Statement.{statement}
@@ -111,7 +111,7 @@ write-part-requires : tie.Need-write-part-requires
 write-part-requires c κs =
     let past = c .before .before .before in
     let took = log-taken (c .before .before .before .before .before .before) in (
-      alone _ (c .before .before .before .before .before .before .before .before .before .before .before .before .before .before .read-table .ensures .1) _ (took .log) (took .read) _ (present past) (λ i. omega (arith, c .before .before .before .before .before .before .before .before .before .before .before .before .before .before .before .before .shared-slice-known2 .given i)),
+      alone _ (c .before .before .before .before .before .before .before .before .before .before .before .before .before .before .read-table .ensures .1) _ (took .log) (took .read) _ (present past),
       few past,
       (fits past) .room,
     )
@@ -129,7 +129,7 @@ returns-4 c =
     let is = part-written (start .args .table .now) (start .args .log .now) (start .args .booth) (start .args .n) (start .args .part .now) _
     (lines-taken (c .before .before .before .before .before .before .before .before .before .before .before .before .before .before)) (took .log) (took .read) (fine past) in
     let buffer = c .before .before .write-part .ensures
-    ∙ ap (λ l. written 0 (solo l (ownIn (start .args .log .now) (start .args .booth)) (start .args .n)) (start .args .part .now)) (sym (line-in table (start .args .booth) (present past)))
+    ∙ ap (λ l. written 0 (solo l (waitingAt (start .args .log .now) (start .args .booth) 9) (start .args .n)) (start .args .part .now)) (sym (line-in table (start .args .booth) (present past)))
     ∙ ap (λ es. written 0 (solo (getD (linesHeld table) (start .args .booth) no-line) es (start .args .n)) (start .args .part .now))
     (own-are table (c .before .before .before .before .before .before .before .before .before .before .before .before .before .before .before .before .before .read-table .ensures .1) (start .args .log .now) (took .log) (took .read) (start .args .booth)) in
     (sym (ap (λ o. o .verdict) is), buffer ∙ sym (ap (λ o. o .buffer) is))

@@ -5,20 +5,22 @@ use native.Mathlib.Omega.{arith}
 use Rattle.base.specs.Bytes.{written}
 use Rattle.rules.specs.SoloPart.{solo}
 use Rattle.rules.specs.Values.{lineHeld}
-use Rattle.solo.specs.Alone.{Plays, ownIn}
+use Rattle.solo.specs.Alone.{Plays}
+use Rattle.arrivals.specs.Places.{waitingAt}
+use Rattle.arrivals.proofs.Places.{first-place}
 use Rattle.rules.proofs.Held.{zeros}
 use Rattle.solo.proofs.Playing.{starts, none-written, length-part, written-more}
 use Rattle.solo.proofs.write_part.Statement.{statement}
 use Rattle.solo.proofs.write_part.Tie as tie
 
 abbrev Inv-loop : tie.InvT-loop
-Inv-loop log booth line n part₀ player₀ u₀ part player u = (u ≤ n .0) × Plays log line booth u player × (part ≡ written 0 (solo (lineHeld line) (ownIn log booth) u) part₀)
+Inv-loop log booth line n part₀ player₀ u₀ part player u = (u ≤ n .0) × Plays log line booth u player × (part ≡ written 0 (solo (lineHeld line) (waitingAt log booth 9) u) part₀)
 
 abbrev μ-loop : tie.MeasureT-loop
 μ-loop log booth line n part₀ player₀ u₀ part player u = n .0 - u
 
 point-of-requires : tie.Need-point-of-requires Inv-loop μ-loop
-point-of-requires c κs = let a = c .before .before .pre .0 in (a .sound, a .log, omega arith)
+point-of-requires c κs = let a = c .before .before .pre .0 in (a .sound, first-place (a .log))
 
 loop-holds : tie.Need-loop-holds Inv-loop μ-loop
 loop-holds c = (omega arith, starts _ _ _ (c .before .before .before .pre .0) _ _ (c .point-of .ensures) refl (zeros 8), none-written _ _ _)
@@ -59,7 +61,7 @@ returns c =
     let start = c .before .before .before .before .before .before in
     let inv = c .before .before .loop .inv in
     let all : c .before .before .loop .u ≡ start .args .n .0 = omega (arith, inv .0, c .if1 .left) in
-    inv .2 ∙ ap (λ u. written 0 (solo (lineHeld (start .args .line)) (ownIn (start .args .log .now) (start .args .booth)) u) (start .args .part .now)) all
+    inv .2 ∙ ap (λ u. written 0 (solo (lineHeld (start .args .line)) (waitingAt (start .args .log .now) (start .args .booth) 9) u) (start .args .part .now)) all
 
 pub write-part-spec : {M : Type 1} → statement M
 write-part-spec =

@@ -1,8 +1,9 @@
 -- `solo::Player::admit` meets its contract: each entry that is passed was reached, and the one it stops at was not. Assumes nothing.
 use Prim.Native.Nat.{_-_, _<_}
-use Rattle.solo.specs.Alone.{Plays, entriesIn}
+use Rattle.solo.specs.Alone.{Plays}
 use Rattle.solo.proofs.Playing.{there, plays-on}
 use native.Mathlib.Omega.{arith}
+use lib.ListN.{length}
 use Rattle.solo.proofs.Player.admit.Statement.{statement}
 use Rattle.solo.proofs.Player.admit.Tie as tie
 
@@ -10,13 +11,13 @@ abbrev Inv-loop : tie.InvT-loop
 Inv-loop self₀ log booth line u self = Plays log line booth (u .0) self
 
 abbrev μ-loop : tie.MeasureT-loop
-μ-loop self₀ log booth line u self = entriesIn log - self .next
+μ-loop self₀ log booth line u self = length log - self .next
 
 loop-holds : tie.Need-loop-holds Inv-loop μ-loop
 loop-holds c = c .before .pre .1
 
 -- what is reached is an entry
-inside : (c : tie.Then1 Inv-loop μ-loop) → c .before .before .before .loop .self .next < entriesIn (c .before .before .before .before .before .args .log .now)
+inside : (c : tie.Then1 Inv-loop μ-loop) → c .before .before .before .loop .self .next < length (c .before .before .before .before .before .args .log .now)
 inside c =
     let start = c .before .before .before .before .before in
     there _ _ _ (start .pre .0) (start .args .u .0) _ (c .before .before .before .loop .inv) (c .if1 .taken) (omega (arith, start .pre .2))
@@ -25,7 +26,7 @@ pass-requires : tie.Need-pass-requires Inv-loop μ-loop
 pass-requires c κs =
     let start = c .before .before .before .before .before in
     let plays = c .before .before .before .loop .inv in
-    (start .pre .0, inside c, plays .eight, λ k. omega (arith, plays .room k))
+    (start .pre .0, plays .place, inside c, plays .eight, λ k. omega (arith, plays .room k))
 
 loop-less : tie.Need-loop-less Inv-loop μ-loop
 loop-less c = omega (arith, inside (c .before), c .pass .ensures .next)

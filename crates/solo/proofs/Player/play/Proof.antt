@@ -4,7 +4,8 @@ use Prim.Native.Nat.{_+_, _-_, _<_}
 use native.Mathlib.Omega.{arith}
 use lib.ListN.{getD, set}
 use Rattle.rules.specs.Values.{lineHeld}
-use Rattle.solo.specs.Alone.{Plays, ownIn, ownTick}
+use Rattle.solo.specs.Alone.{Plays, ownTick}
+use Rattle.arrivals.specs.Places.{waitingAt}
 use Rattle.solo.proofs.Playing.{picked, task-picked, tick-small, silent, worked}
 use borrow.Author.Needs.{needs}
 use Rattle.solo.proofs.Player.play.Statement.{statement}
@@ -17,7 +18,7 @@ first-left-requires : tie.Need-first-left-requires
 first-left-requires c κs = search needs
 
 -- what is found is the solo part's own tick
-is-tick : (c : tie.After-first-left) → c .first-left .result ≡ ownTick (lineHeld (c .before .before .before .before .before .args .line)) (ownIn (c .before .before .before .before .before .args .log .now) (c .before .before .before .before .before .args .booth)) (c .before .before .before .before .before .args .u .0)
+is-tick : (c : tie.After-first-left) → c .first-left .result ≡ ownTick (lineHeld (c .before .before .before .before .before .args .line)) (waitingAt (c .before .before .before .before .before .args .log .now) (c .before .before .before .before .before .args .booth) 9) (c .before .before .before .before .before .args .u .0)
 is-tick c = c .first-left .ensures ∙ picked _ _ _ (c .before .before .before .before .before .pre .0) _ _ (c .before .before .admit .ensures)
 
 -- where it is a task, the task is one of the eight and has something left
