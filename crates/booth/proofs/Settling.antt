@@ -15,7 +15,7 @@ use Rattle.rules.specs.Due.{due, releasePoint}
 use Rattle.rules.specs.Moves.{Booth, noDemand, settle}
 use Rattle.rules.specs.Values.{lineHeld}
 use Rattle.table.specs.Fit.{Sounds}
-use Rattle.laws.specs.Statements.{Sound}
+use Rattle.rules.specs.InRange.{Sound}
 use Rattle.laws.proofs.DueLaws.{due-mono, due-at-most}
 use Rattle.laws.proofs.QuickSettle.{forward, addFirst, afterFirst, rest, rests, takesFirst, settleThrough, quickSettle, InOrder}
 use Rattle.laws.proofs.PageSettle.{settle-quick}

@@ -20,7 +20,8 @@ use Rattle.rules.specs.ArrivalLog.{Entry, Log, readLog}
 use Rattle.rules.specs.Admission.{readTable}
 use Rattle.rules.specs.Moves.{Booth, nobody}
 use Rattle.rules.specs.Session.{count, workedFrom, writeRows, freshBooth, settledAt, nothingDone, bufferChecks, played, session}
-use Rattle.laws.specs.Statements.{GoodLine, Passes, Accepted, outcome, booths, ticks, lineOf, clockOf, rowOf, wallOf, settledOf}
+use Rattle.rules.specs.InRange.{GoodLine}
+use Rattle.laws.specs.Statements.{Passes, Accepted, outcome, booths, ticks, lineOf, clockOf, rowOf, wallOf, settledOf}
 use Rattle.laws.proofs.DueLaws.{due-at-most}
 use Rattle.laws.proofs.Checks.{no-fault}
 use Rattle.laws.proofs.Readers.{all-at, Lines, LogRead, read-log}

@@ -18,7 +18,8 @@ use Rattle.rules.specs.Due.{due}
 use Rattle.rules.specs.Moves.{Booth, nobody, noDemand, settle, mayWork, firstTask, work, worker, turn, settleAll}
 use Rattle.rules.specs.Session.{ownEntries, freshBooth, openBooths, settledAt, count, writeRows}
 use Rattle.rules.proofs.Held.{zeros}
-use Rattle.laws.specs.Statements.{Sound, boothAt}
+use Rattle.rules.specs.InRange.{Sound}
+use Rattle.laws.specs.Statements.{boothAt}
 use Rattle.laws.proofs.Entries.{Sorted, own-sorted}
 use Rattle.laws.proofs.DueLaws.{due-zero, due-at-most}
 use Rattle.laws.proofs.QuickSettle.{forward, addFirst, quickSettle, settle-ind, rests, InOrder}

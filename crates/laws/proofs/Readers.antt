@@ -15,8 +15,9 @@ use Rattle.base.specs.Refusals.{Taken, taken, refused, refuseIf, firstFault}
 use Rattle.rules.specs.BoothTable.{Line, Placed, linesOf, booths-allowed, longest-period, tableN, headerChecks, recordL, recordEnd, lineAt, placedAt, lengthAllowed, lineChecks, recordChecks, withPlaced, readRecords, readLines}
 use Rattle.rules.specs.ArrivalLog.{Entry, Log, longest-session, entries-allowed, entry-bytes, logN, logH, headChecks, horizonChecks, entryAt, longestJobs, entryChecks, withEntry, readEntries, withHorizon, readLog}
 use Rattle.base.proofs.Checks.{neither}
-use Rattle.rules.proofs.Records.{length-jobs, allowed-range}
-use Rattle.laws.specs.Statements.{GoodLine, GoodEntry, no-entry}
+use Rattle.rules.proofs.Records.{positive, record-passed}
+use Rattle.rules.specs.InRange.{GoodLine}
+use Rattle.laws.specs.Statements.{GoodEntry, no-entry}
 use Rattle.laws.proofs.Entries.{From, Sorted}
 use Rattle.laws.proofs.Checks.{taken-or-refused, taken-once, no-fault}
 
@@ -29,29 +30,6 @@ pub all-at : {A : Type 0} (P : A → Type 0) (xs : List A) (d : A) → All P xs 
 all-at P [] d a i h = absurd (not-suc-le-zero h)
 all-at P (x ∷ xs) d a zero h = a .0
 all-at P (x ∷ xs) d a (suc i) h = all-at P xs d (a .1) i (le-of-suc-le-suc h)
-
--- ---- one record of the table
-
-positive : (n : ℕ) → n ≢ 0 → 0 < n
-positive n h = omega arith
-
-good-line : (bs : List ℕ) (at : ℕ) → firstFault (recordChecks bs at) ≡ none → GoodLine (lineAt bs at)
-unfolding recordChecks refuseIf lineAt recordL lineChecks
-good-line bs at h =
-    let p = no-fault (recordChecks bs at) h in
-    let L = allowed-range (recordL bs at) (not-false (lengthAllowed (recordL bs at)) (p .0)) in
-    let T = (lineAt bs at) .promise .period in
-    let B = (lineAt bs at) .promise .allowance in
-    let (no-T, long-T) = neither (eqb T 0) (ltb longest-period T) (p .1 .1 .0) in
-    let (no-B, long-B) = neither (eqb B 0) (ltb T B) (p .1 .1 .1 .0) in
-    let n = length-jobs ((recordL bs at - 4) / 2) bs (at + 5) in
-    record {
-      sound = record { period = positive T (eqb-false T 0 no-T); allowance = positive B (eqb-false B 0 no-B); within = ltb-false T B long-B };
-      short = ltb-false longest-period T long-T;
-      some-task = omega arith;
-      few-tasks = omega arith;
-      jobs = p .1 .1 .1 .1 .0;
-    }
 
 -- ---- the table
 
@@ -82,7 +60,7 @@ read-records (suc room) bs at ps h = go (λ qs e. read-records room bs (recordEn
         → (qs : List Placed) × (readRecords room bs (recordEnd bs at) ≡ taken qs) × (placedAt bs at ∷ qs ≡ ps) → Records (suc room) bs at ps
     more ih f (qs, e, x) =
         let r = ih qs e in
-        subst (Records (suc room) bs at) x (record { some = λ k. omega arith; few = omega (arith, r .few); good = (good-line bs at f, r .good) })
+        subst (Records (suc room) bs at) x (record { some = λ k. omega arith; few = omega (arith, r .few); good = ((record-passed bs at f) .good, r .good) })
 
     go : ((qs : List Placed) → readRecords room bs (recordEnd bs at) ≡ taken qs → Records room bs (recordEnd bs at) qs) → (c : Bool) → leb (length bs) at ≡ c
         → (f : Option Refusal) → firstFault (recordChecks bs at) ≡ f → Records (suc room) bs at ps

@@ -5,6 +5,7 @@ ghost use lib.ListN.{length, take};
 ghost use Rattle.rules.specs.declared.Refused.the-variants.{TheCall};
 ghost use Rattle.base.specs.Refusals.{refusal};
 ghost use Rattle.rules.specs.Verdicts.{refusedAs};
+ghost use Rattle.rules.specs.InRange.{Sound};
 ghost use Rattle.rules.specs.Session as session;
 ghost use Rattle.rules.specs.Panel as page;
 ghost use Rattle.panel.specs.Exact.{ExactAtPowers};
@@ -71,7 +72,7 @@ fn reading_of(worked: u32, due: u32, got: f64) -> Reading
 
 // The row of a booth that worked so many of the first `t` ticks.
 fn panel_row(promise: Promise, worked: u32, t: u32) -> PanelRow
-    requires { ⌜ (0 < promise .period) × (promise .allowance ≤ promise .period) ⌝ }
+    requires { ⌜ Sound promise ⌝ }
     ensures { λ r. ⌜ r ≡ shownRow (page.panelRow promise worked t) ⌝ }
 {
     let verdict = rules::accepted();

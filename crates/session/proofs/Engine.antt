@@ -24,7 +24,7 @@ use Rattle.rules.proofs.Held.{zeros, map-take, length-padded, getD-padded, set-
 use Rattle.laws.proofs.WallRecord.{worked-at, length-worked, length-wall}
 use Rattle.laws.proofs.DueLaws.{due-at-most}
 use Rattle.table.specs.Fit.{Sounds}
-use Rattle.laws.specs.Statements.{Sound}
+use Rattle.rules.specs.InRange.{Sound}
 use Rattle.laws.proofs.QuickSettle.{InOrder, Late}
 use Rattle.laws.proofs.Run.{AsRead, getD-map}
 use Rattle.laws.proofs.SettleAgain.{in-order-later}

@@ -15,8 +15,7 @@ use Rattle.rules.specs.Due.{due, releasePoint}
 use Rattle.rules.specs.Session.{ownEntries}
 use Rattle.rules.specs.SoloPart.{asked}
 use Rattle.rules.specs.Values.{lineHeld}
-use Rattle.table.specs.Fit.{Sounds}
-use Rattle.laws.specs.Statements.{Sound}
+use Rattle.rules.specs.InRange.{Sound}
 use Rattle.laws.specs.Ordered.{Sorted}
 use Rattle.laws.proofs.Entries.{own-from, from-past}
 use Rattle.laws.proofs.Opening.{asked-none}
@@ -33,9 +32,6 @@ module _ (l : Line) (e : Entry) (es : List Entry) (n k : ℕ) where
   unfolding asked
   asked-elsewhere t = rw (ne-eqb (e .task) k t, asked)
 
-pub sound-promise : (p : Promise) → Sounds p → Sound p
-sound-promise p s = record { period = s .period; allowance = s .allowance; within = s .within }
-
 -- behind an entry whose point is not reached nothing is asked yet, whosever entry it is
 module _ (bs : List ℕ) (line : HeldLine) (booth : ℕ) (a : Alone bs line booth) (at n k : ℕ) (p : Place bs at) where
   none-behind : at < length bs → n < due (line .promise) ((entryAt bs at) .tick) → asked (lineHeld line) (waitingAt bs booth at) n k ≡ 0
@@ -46,7 +42,7 @@ module _ (bs : List ℕ) (line : HeldLine) (booth : ℕ) (a : Alone bs line boot
       let so = subst Sorted (entries-step bs booth at p h) (entries-sorted bs at (a .log) p) in
       ap (λ es. asked (lineHeld line) (ownEntries booth es) n k) (entries-step bs booth at p h)
       ∙ asked-none (lineHeld line) (ownEntries booth (e ∷ rest)) (n + 1) n k (omega arith)
-      (from-past (lineHeld line) (sound-promise (line .promise) (a .sound)) (e .tick) (n + 1) (omega arith) (ownEntries booth (e ∷ rest))
+      (from-past (lineHeld line) (a .sound) (e .tick) (n + 1) (omega arith) (ownEntries booth (e ∷ rest))
       (own-from booth (e .tick) (e ∷ rest) (omega arith, so .0)))
 
   pub none-asked : (at < length bs → n < due (line .promise) ((entryAt bs at) .tick)) → asked (lineHeld line) (waitingAt bs booth at) n k ≡ 0

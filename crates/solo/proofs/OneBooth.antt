@@ -11,13 +11,13 @@ use Rattle.rules.specs.ArrivalLog.{Log, readLog}
 use Rattle.rules.specs.Due.{due}
 use Rattle.rules.specs.Session.{ownEntries}
 use Rattle.rules.specs.Values.{linesHeld, no-held-line}
+use Rattle.table.proofs.Test.{fit-sound}
 use Rattle.table.specs.Fit.{FitTable}
 use Rattle.arrivals.specs.Places.{waitingAt}
 use Rattle.arrivals.proofs.TakenLog.{entries-are, whole-log, task-fits}
 use Rattle.laws.proofs.DueLaws.{due-at-most}
 use Rattle.laws.proofs.Readers.{read-log}
 use Rattle.solo.specs.Alone.{Alone}
-use Rattle.solo.proofs.Asking.{sound-promise}
 use Rattle.solo.proofs.Calls.{promise-in}
 
 module _ (t : HeldTable) (fit : FitTable t) (bs : List ℕ) (log : Log) (read : readLog (linesHeld t) bs ≡ taken log) where
@@ -31,7 +31,7 @@ module _ (t : HeldTable) (fit : FitTable t) (bs : List ℕ) (log : Log) (read : 
     alone =
         let line = fit .lines .line booth there in
         record {
-          sound = line .promise;
+          sound = fit-sound _ line;
           tasks = line .tasks;
           eight = line .eight;
           log = whole-log (linesHeld t) bs log read;
@@ -45,6 +45,6 @@ module _ (t : HeldTable) (fit : FitTable t) (bs : List ℕ) (log : Log) (read : 
         omega (
           arith,
           ap (λ p. due p (log .horizon)) (promise-in t booth there),
-          due-at-most ((getD (t .lines) booth no-held-line) .promise) (sound-promise _ (line .promise)) (log .horizon),
+          due-at-most ((getD (t .lines) booth no-held-line) .promise) (fit-sound _ line) (log .horizon),
           (read-log (linesHeld t) bs log read) .short,
         )

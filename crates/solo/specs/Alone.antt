@@ -12,7 +12,7 @@ use Rattle.rules.specs.Due.{due}
 use Rattle.rules.specs.Session.{count}
 use Rattle.rules.specs.SoloPart.{asked, firstThat, solo}
 use Rattle.rules.specs.Values.{lineHeld}
-use Rattle.table.specs.Fit.{Sounds}
+use Rattle.rules.specs.InRange.{Sound}
 use Rattle.arrivals.specs.Places.{waitingAt, Place, WholeLog}
 use Rattle.solo.specs.declared.Player.{Player}
 
@@ -26,7 +26,7 @@ never = 4294967295
 -- ---- what holds of an accepted log and a line of its table, for one booth
 
 pub record Alone (bs : List ℕ) (line : HeldLine) (booth : ℕ) : Type 0 where
-  pub sound : Sounds (line .promise)
+  pub sound : Sound (line .promise)
   pub tasks : line .tasks ≤ 8
   pub eight : length (line .longest) ≡ 8
   pub log : WholeLog bs

@@ -6,10 +6,11 @@ ghost use lib.Dec.{ltb};
 ghost use lib.ListN.{length, getD, set};
 ghost use Rattle.base.specs.Bytes.{written};
 ghost use Rattle.rules.specs.Due.{due};
+ghost use Rattle.rules.specs.InRange.{Sound};
 ghost use Rattle.base.specs.Refusals.{firstFault, faultOf};
 ghost use Rattle.rules.specs.SoloPart as page;
 ghost use Rattle.rules.specs.Values.{lineHeld, linesHeld};
-ghost use Rattle.table.specs.Fit.{FitTable, Sounds};
+ghost use Rattle.table.specs.Fit.{FitTable};
 ghost use Rattle.arrivals.specs.Places.{Place, waitingAt};
 ghost use Rattle.solo.specs.Alone.{Alone, Point, Plays, Admitted, Passed, ownTick};
 use arrivals::FIRST_ENTRY;
@@ -40,7 +41,7 @@ struct Player {
 
 // The release point by this line of the entry at a place: due of its wall tick, which is converted here and nowhere again. Never, at the log's end.
 fn point_of(log: &[u8], line: Line, at: usize) -> OwnTick
-    requires { ⌜ Sounds (line .promise) × Place (now log) at ⌝ }
+    requires { ⌜ Sound (line .promise) × Place (now log) at ⌝ }
     ensures { λ r. ⌜ Point (now (log .entry)) line at (r .0) ⌝ }
 {
     if log.len() <= at {

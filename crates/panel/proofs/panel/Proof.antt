@@ -9,6 +9,7 @@ use Rattle.rules.specs.Panel.{panelRow}
 use Rattle.rules.specs.Values.{no-held-line}
 use Rattle.table.proofs.Numbers.{answer-taken, answer-refused, taken-booths, taken-promise}
 use Rattle.panel.specs.Shown.{shownRow}
+use Rattle.table.proofs.Test.{fit-sound}
 use Rattle.panel.proofs.Cases.{panel-bad-table, panel-absent, panel-past, panel-long, panel-read}
 use Rattle.panel.proofs.panel.Statement.{statement}
 use Rattle.panel.proofs.panel.Tie as tie
@@ -60,8 +61,7 @@ worked-ticks-requires c κs = search needs
 
 panel-row-requires : tie.Need-panel-row-requires
 panel-row-requires c κs =
-    let sounds = (c .before .before .before .before .before .before .before .before .before .before .before .before .before .before .read-table .ensures .1 .lines .line _ (c .before .before .before .before .before .before .before .before .if2 .left)) .promise in
-    (sounds .period, sounds .within)
+    fit-sound _ (c .before .before .before .before .before .before .before .before .before .before .before .before .before .before .read-table .ensures .1 .lines .line _ (c .before .before .before .before .before .before .before .before .if2 .left))
 
 returns-5 : tie.Need-returns-5
 returns-5 c =

@@ -7,7 +7,7 @@ use Rattle.rules.specs.BoothTable.{no-line}
 use Rattle.rules.specs.Due.{due}
 use Rattle.base.specs.Refusals.{faultOf}
 use Rattle.rules.specs.Values.{linesHeld}
-use Rattle.table.proofs.Test.{lines-in}
+use Rattle.table.proofs.Test.{lines-in, fit-sound}
 use Rattle.solo.proofs.Calls.{promise-in, call-absent, call-many, call-long, call-fits}
 use borrow.Author.Needs.{needs}
 use Rattle.solo.proofs.call_fault.Statement.{statement}
@@ -29,8 +29,7 @@ array-copy-out-line c = search needs
 
 due-requires : tie.Need-due-requires
 due-requires c κs =
-    let sounds = (c .before .before .before .before .before .pre .lines .line _ (c .before .before .before .if1 .left)) .promise in
-    (sounds .period, sounds .within)
+    fit-sound _ (c .before .before .before .before .before .pre .lines .line _ (c .before .before .before .if1 .left))
 
 cast-if2 : tie.Need-cast-if2
 cast-if2 c = search needs
