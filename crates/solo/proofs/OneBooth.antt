@@ -13,7 +13,7 @@ use Rattle.rules.specs.Session.{ownEntries}
 use Rattle.rules.specs.Values.{linesHeld, no-held-line}
 use Rattle.table.proofs.Test.{fit-sound}
 use Rattle.table.specs.Fit.{FitTable}
-use Rattle.arrivals.specs.Places.{waitingAt}
+use Rattle.arrivals.specs.Places.{waitingAt, entriesOf}
 use Rattle.arrivals.proofs.TakenLog.{entries-are, whole-log, task-fits}
 use Rattle.laws.proofs.DueLaws.{due-at-most}
 use Rattle.laws.proofs.Readers.{read-log}
@@ -23,7 +23,7 @@ use Rattle.solo.proofs.Calls.{promise-in}
 module _ (t : HeldTable) (fit : FitTable t) (bs : List ℕ) (log : Log) (read : readLog (linesHeld t) bs ≡ taken log) where
   -- the booth's entries by their bytes are those that the rules read
   pub own-are : (booth : ℕ) → waitingAt bs booth 9 ≡ ownEntries booth (log .entries)
-  unfolding waitingAt
+  unfolding waitingAt entriesOf
   own-are booth = ap (ownEntries booth) (sym (entries-are (linesHeld t) bs log read))
 
   module _ (booth : ℕ) (there : booth < t .booths) where
