@@ -17,7 +17,7 @@ use Rattle.rules.specs.ArrivalLog.{Entry, Log, longest-session, entries-allowed
 use Rattle.base.proofs.Checks.{neither}
 use Rattle.rules.proofs.Records.{length-jobs, allowed-range}
 use Rattle.laws.specs.Statements.{GoodLine, GoodEntry}
-use Rattle.laws.proofs.Entries.{From, Sorted}
+use Rattle.laws.specs.Ordered.{From, Sorted}
 use Rattle.laws.proofs.Checks.{taken-or-refused, taken-once, refused-once, no-fault, not-said}
 
 -- each of a list

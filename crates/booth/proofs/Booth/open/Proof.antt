@@ -1,7 +1,7 @@
 -- `Booth::open` meets its contract. Assumes nothing.
 use native.Mathlib.Omega.{arith}
 use borrow.Author.Needs.{needs}
-use Rattle.booth.proofs.Opening.{open-fit, open-fresh}
+use Rattle.booth.proofs.FreshBooth.{open-fit, open-fresh}
 use Rattle.booth.proofs.Booth.open.Statement.{statement}
 use Rattle.booth.proofs.Booth.open.Tie as tie
 
@@ -10,7 +10,7 @@ look-requires c κs = search needs
 
 returns : tie.Need-returns
 returns c =
-    let start = c .before .before in
+    let start = c .before .before .before in
     let bs = start .args .log .now in (
       open-fit bs (start .args .number) (start .args .line) (start .pre .0 .0) (start .pre .0 .1) (start .pre .1) (c .look .result) (c .look .ensures),
       open-fresh bs (start .args .number) (start .args .line) (start .pre .0 .0) (start .pre .0 .1) (start .pre .1) (c .look .result) (c .look .ensures),
