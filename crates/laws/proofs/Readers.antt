@@ -19,7 +19,7 @@ use Rattle.base.proofs.Checks.{neither}
 use Rattle.rules.proofs.Records.{positive, record-passed}
 use Rattle.rules.specs.InRange.{GoodLine}
 use Rattle.laws.specs.Statements.{GoodEntry, no-entry}
-use Rattle.laws.proofs.Entries.{From, Sorted}
+use Rattle.laws.specs.Ordered.{From, Sorted}
 use Rattle.laws.proofs.Checks.{taken-or-refused, taken-once, no-fault}
 
 -- each of a list

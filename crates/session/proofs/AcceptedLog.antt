@@ -2,7 +2,6 @@
 use mathlib.Core.Path.{_≡_, refl, sym, ap, _∙_, subst}
 use mathlib.Core.List.{List, [], _∷_, _++_, map}
 use Prim.Native.Nat.{ℕ, zero, suc, _+_, _-_, _*_, _/_, _%_, _≤_, _<_}
-use native.Mathlib.Nat.{not-suc-le-zero, le-of-suc-le-suc}
 use native.Mathlib.Omega.{arith}
 use lib.ListN.{length, getD, take}
 use lib.Seq.{ext-getD}
@@ -11,24 +10,13 @@ use Rattle.rules.specs.BoothTable.{Line, no-line}
 use Rattle.rules.specs.ArrivalLog.{Entry, Log, entryAt, longestJobs}
 use Rattle.rules.specs.Values.{lineHeld, linesHeld, no-held-line}
 use Rattle.laws.specs.Statements.{no-entry}
-use Rattle.laws.proofs.Entries.{Sorted}
+use Rattle.laws.specs.Ordered.{Sorted}
 use Rattle.arrivals.proofs.Entries.{Accepted, FitEntry}
 use Rattle.table.specs.Fit.{FitTable, FitLine}
 use Rattle.table.proofs.Test.{held-at}
-use Rattle.booth.specs.Shown as shows
-use Rattle.booth.specs.Shown.{entriesFrom, Place}
+use Rattle.arrivals.specs.Places.{entriesFrom, Place, WholeLog}
+use Rattle.arrivals.proofs.Places.{length-from, from-at, place-index}
 use Rattle.session.specs.Running.{entriesOf}
-
-length-from : (n : ℕ) (bs : List ℕ) (at : ℕ) → length (entriesFrom n bs at) ≡ n
-unfolding entriesFrom
-length-from zero bs at = refl
-length-from (suc n) bs at = ap suc (length-from n bs (at + 9))
-
-from-at : (n : ℕ) (bs : List ℕ) (at i : ℕ) (d : Entry) → i < n → getD (entriesFrom n bs at) i d ≡ entryAt bs (at + 9 * i)
-unfolding entriesFrom
-from-at zero bs at i d h = absurd (not-suc-le-zero h)
-from-at (suc n) bs at zero d h = ap (entryAt bs) (omega arith)
-from-at (suc n) bs at (suc i) d h = from-at n bs (at + 9) i d (le-of-suc-le-suc h) ∙ ap (entryAt bs) (omega arith)
 
 -- an accepted log's entries are those that lie in its bytes
 pub entries-are : (ls : List Line) (bs : List ℕ) (log : Log) → Accepted ls bs log → log .entries ≡ entriesOf bs
@@ -38,16 +26,12 @@ entries-are ls bs log a =
     ext-getD no-entry (log .entries) (entriesFrom ((length bs - 9) / 9) bs 9) (sym (length-from ((length bs - 9) / 9) bs 9 ∙ n))
     (λ i l. a .each i no-entry l ∙ sym (from-at ((length bs - 9) / 9) bs 9 i no-entry (omega arith)))
 
--- which entry lies at a place
-pub place-index : (bs : List ℕ) (at n : ℕ) → length bs ≡ 9 + 9 * n → Place bs at → at < length bs → ((at - 9) / 9 < n) × (9 + 9 * ((at - 9) / 9) ≡ at)
-place-index bs at n whole p l = (omega (arith, p .from, p .whole, p .inside), omega (arith, p .from, p .whole, p .inside))
-
 pub entry-fits : (ls : List Line) (bs : List ℕ) (log : Log) → Accepted ls bs log → (at : ℕ) → Place bs at → at < length bs → FitEntry ls (log .horizon) (entryAt bs at)
 entry-fits ls bs log a at p l =
     let q = place-index bs at (length (log .entries)) (a .whole) p l in
     subst (λ x. FitEntry ls (log .horizon) (entryAt bs x)) (q .1) (a .fit ((at - 9) / 9) (q .0))
 
-pub log-fits : (ls : List Line) (bs : List ℕ) (log : Log) → Accepted ls bs log → Sorted (log .entries) → shows.Log bs
+pub log-fits : (ls : List Line) (bs : List ℕ) (log : Log) → Accepted ls bs log → Sorted (log .entries) → WholeLog bs
 log-fits ls bs log a sorted =
     record {
       header = omega (arith, a .whole);
