@@ -14,7 +14,7 @@ use Rattle.laws.specs.Statements.{GoodEntry, no-entry}
 use Rattle.laws.specs.Ordered.{Sorted}
 use Rattle.laws.proofs.Readers.{all-at, LogRead, read-log}
 use Rattle.table.proofs.Test.{line-in}
-use Rattle.arrivals.specs.Places.{entriesFrom, Place, WholeLog}
+use Rattle.arrivals.specs.Places.{entriesFrom, entriesOf, logOf, Place, WholeLog}
 use Rattle.arrivals.proofs.Places.{length-from, from-at, place-index}
 
 module _ (ls : List Line) (bs : List ℕ) (log : Log) (read : readLog ls bs ≡ taken log) where
@@ -22,11 +22,16 @@ module _ (ls : List Line) (bs : List ℕ) (log : Log) (read : readLog ls bs ≡ 
   known = read-log ls bs log read
 
   -- its entries are those that lie in its bytes
-  pub entries-are : log .entries ≡ entriesFrom ((length bs - 9) / 9) bs 9
+  pub entries-are : log .entries ≡ entriesOf bs
+  unfolding entriesOf
   entries-are =
       let n : (length bs - 9) / 9 ≡ length (log .entries) = omega (arith, known .whole) in
       ext-getD no-entry (log .entries) (entriesFrom ((length bs - 9) / 9) bs 9) (sym (length-from ((length bs - 9) / 9) bs 9 ∙ n))
       (λ i l. known .each i l ∙ sym (from-at ((length bs - 9) / 9) bs 9 i no-entry (omega arith)))
+
+  pub log-is : log ≡ logOf (log .horizon) bs
+  unfolding logOf
+  log-is = ap (λ es. record { horizon = log .horizon; entries = es }) entries-are
 
   pub entry-good : (at : ℕ) → Place bs at → at < length bs → GoodEntry ls (log .horizon) (entryAt bs at)
   entry-good at p l =
@@ -34,6 +39,7 @@ module _ (ls : List Line) (bs : List ℕ) (log : Log) (read : readLog ls bs ≡ 
       subst (GoodEntry ls (log .horizon)) (known .each ((at - 9) / 9) i ∙ ap (entryAt bs) q) (all-at (GoodEntry ls (log .horizon)) (log .entries) no-entry (known .good) ((at - 9) / 9) i)
 
   pub whole-log : WholeLog bs
+  unfolding entriesOf
   whole-log =
       record {
         header = omega (arith, known .whole);

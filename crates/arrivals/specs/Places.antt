@@ -3,7 +3,7 @@ use mathlib.Core.Path.{_≡_}
 use mathlib.Core.List.{List, [], _∷_}
 use Prim.Native.Nat.{ℕ, zero, suc, _+_, _-_, _/_, _%_, _≤_, _<_}
 use lib.ListN.{length}
-use Rattle.rules.specs.ArrivalLog.{Entry, entryAt}
+use Rattle.rules.specs.ArrivalLog.{Entry, Log, entryAt}
 use Rattle.rules.specs.Session.{ownEntries}
 use Rattle.laws.specs.Ordered.{Sorted}
 
@@ -15,6 +15,13 @@ entriesFrom (suc n) bs at = entryAt bs at ∷ entriesFrom n bs (at + 9)
 -- the booth's entries from a place on
 unfoldable pub waitingAt : List ℕ → ℕ → ℕ → List Entry
 waitingAt bs number at = ownEntries number (entriesFrom ((length bs - at) / 9) bs at)
+
+-- all entries of a log, and the log with its wall ticks
+unfoldable pub entriesOf : List ℕ → List Entry
+entriesOf bs = entriesFrom ((length bs - 9) / 9) bs 9
+
+unfoldable pub logOf : ℕ → List ℕ → Log
+logOf H bs = record { horizon = H; entries = entriesOf bs }
 
 -- where an entry starts, or the log ends
 pub record Place (bs : List ℕ) (at : ℕ) : Type 0 where

@@ -10,17 +10,18 @@ use lib.ListN.{length, getD, take, drop, length-map}
 use lib.Seq.{take-append-seam}
 use borrow.Author.Tests.{ltb-false, le-ltb}
 use Rattle.base.specs.declared.Refusal.{Refusal}
-use Rattle.rules.specs.declared.Refused.{Refused}
-use Rattle.rules.specs.declared.Refused.the-variants.{Nothing, TheTable, TheLog, TheCall}
+use Rattle.rules.specs.declared.Refused.the-variants.{TheCall}
 use Rattle.base.specs.Bytes.{written}
-use Rattle.base.specs.Refusals.{Taken, taken, refused, refuseIf, firstFault}
+use Rattle.base.specs.Refusals.{taken, refuseIf, firstFault}
 use Rattle.rules.specs.Verdicts.{accepted, refusedAs}
 use Rattle.rules.specs.BoothTable.{Line, no-line}
 use Rattle.rules.specs.ArrivalLog.{Entry, Log, readLog}
 use Rattle.rules.specs.Admission.{readTable}
+use Rattle.rules.specs.Files.{TwoFiles, bothTaken, oneRefused, readFiles}
 use Rattle.rules.specs.Moves.{Booth, nobody}
 use Rattle.rules.specs.Session.{count, workedFrom, writeRows, freshBooth, settledAt, nothingDone, bufferChecks, played, session}
 use Rattle.rules.specs.InRange.{GoodLine}
+use Rattle.rules.proofs.TwoFiles.{both-taken, read-in-turn, one-refused}
 use Rattle.laws.specs.Statements.{Passes, Accepted, outcome, booths, ticks, lineOf, clockOf, rowOf, wallOf, settledOf}
 use Rattle.laws.proofs.DueLaws.{due-at-most}
 use Rattle.laws.proofs.Checks.{no-fault}
@@ -34,65 +35,46 @@ use Rattle.laws.proofs.LentRows.{length-written, kept-outside, ShortRow
 
 -- ---- what the answer 0 says
 
--- a refusal of something is no acceptance
-not-accepted : (what : Refused) → (what ≡ Nothing → ⊥) → (r : Refusal) → ¬ (refusedAs what r ≡ accepted)
-unfolding refusedAs accepted
-not-accepted what n r h = n (ap (λ v. v .refused) h)
-
-no-table : (r : Refusal) → ¬ (refusedAs TheTable r ≡ accepted)
-no-table = not-accepted TheTable (λ e. let z : _≡_ {A = ℕ} 0 1 = cc in omega arith)
-
-no-log : (r : Refusal) → ¬ (refusedAs TheLog r ≡ accepted)
-no-log = not-accepted TheLog (λ e. let z : _≡_ {A = ℕ} 0 1 = cc in omega arith)
-
+-- a refusal of the call is no acceptance
 no-room : (r : Refusal) → ¬ (refusedAs TheCall r ≡ accepted)
-no-room = not-accepted TheCall (λ e. let z : _≡_ {A = ℕ} 0 1 = cc in omega arith)
+unfolding refusedAs accepted
+no-room r h = let z : _≡_ {A = ℕ} 0 1 = cc (ap (λ v. v .refused) h) in omega arith
 
 pub has-read : (tableBytes logBytes wall own : List ℕ) → (session tableBytes logBytes wall own) .verdict ≡ accepted
     → (ls : List Line) × (log : Log) × (readTable tableBytes ≡ taken ls) × (readLog ls logBytes ≡ taken log)
-unfolding session nothingDone
-has-read tableBytes logBytes wall own h = the-table (readTable tableBytes) refl
+unfolding session nothingDone accepted
+has-read tableBytes logBytes wall own h = go (readFiles tableBytes logBytes) refl
   where
-    Read : Type 0
-    Read = (ls : List Line) × (log : Log) × (readTable tableBytes ≡ taken ls) × (readLog ls logBytes ≡ taken log)
-
-    the-log : (ls : List Line) → readTable tableBytes ≡ taken ls → (t : Taken Log) → readLog ls logBytes ≡ t → Read
-    the-log ls q (refused r) p = absurd (no-log r (rw p at (rw (q, session) at h)))
-    the-log ls q (taken log) p = (ls, log, q, p)
-
-    the-table : (t : Taken (List Line)) → readTable tableBytes ≡ t → Read
-    the-table (refused r) q = absurd (no-table r (rw (q, session) at h))
-    the-table (taken ls) q = the-log ls q (readLog ls logBytes) refl
+    go : (f : TwoFiles) → readFiles tableBytes logBytes ≡ f
+        → (ls : List Line) × (log : Log) × (readTable tableBytes ≡ taken ls) × (readLog ls logBytes ≡ taken log)
+    go (oneRefused v) q = absurd (one-refused tableBytes logBytes v q (ap (λ w. w .refused) (rw (q, session) at h)))
+    go (bothTaken ls log) q = let (t, l) = read-in-turn tableBytes logBytes ls log q in (ls, log, t, l)
 
 pub answers : (tableBytes logBytes wall own : List ℕ) (ls : List Line) (log : Log) → readTable tableBytes ≡ taken ls → readLog ls logBytes ≡ taken log
     → log .horizon ≤ length wall → length ls * log .horizon ≤ length own → (session tableBytes logBytes wall own) .verdict ≡ accepted
 unfolding session played bufferChecks refuseIf firstFault
 answers tableBytes logBytes wall own ls log q p w o =
-    rw (q, session) (rw p (rw (le-ltb (length wall) (log .horizon) w, le-ltb (length own) (length ls * log .horizon) o)))
+    rw (both-taken tableBytes logBytes ls log q p, session) (rw (le-ltb (length wall) (log .horizon) w, le-ltb (length own) (length ls * log .horizon) o))
 
 pub or-nothing : (tableBytes logBytes wall own : List ℕ)
     → ((session tableBytes logBytes wall own) .verdict ≡ accepted)
     ⊎ (session tableBytes logBytes wall own ≡ nothingDone ((session tableBytes logBytes wall own) .verdict) wall own)
 unfolding session nothingDone played
-or-nothing tableBytes logBytes wall own = the-table (readTable tableBytes) refl
+or-nothing tableBytes logBytes wall own = go (readFiles tableBytes logBytes) refl
   where
     Either : Type 0
     Either =
         ((session tableBytes logBytes wall own) .verdict ≡ accepted)
         ⊎ (session tableBytes logBytes wall own ≡ nothingDone ((session tableBytes logBytes wall own) .verdict) wall own)
 
-    the-call : (ls : List Line) (log : Log) → readTable tableBytes ≡ taken ls → readLog ls logBytes ≡ taken log
+    the-call : (ls : List Line) (log : Log) → readFiles tableBytes logBytes ≡ bothTaken ls log
         → (f : Option Refusal) → firstFault (bufferChecks (length ls) (log .horizon) wall own) ≡ f → Either
-    the-call ls log q p (some r) x = inr (rw (q, session) (rw p (rw x)))
-    the-call ls log q p none x = inl (rw (q, session) (rw p (rw x)))
+    the-call ls log q (some r) x = inr (rw (q, session) (rw x))
+    the-call ls log q none x = inl (rw (q, session) (rw x))
 
-    the-log : (ls : List Line) → readTable tableBytes ≡ taken ls → (t : Taken Log) → readLog ls logBytes ≡ t → Either
-    the-log ls q (refused r) p = inr (rw (q, session) (rw p))
-    the-log ls q (taken log) p = the-call ls log q p (firstFault (bufferChecks (length ls) (log .horizon) wall own)) refl
-
-    the-table : (t : Taken (List Line)) → readTable tableBytes ≡ t → Either
-    the-table (refused r) q = inr (rw (q, session))
-    the-table (taken ls) q = the-log ls q (readLog ls logBytes) refl
+    go : (f : TwoFiles) → readFiles tableBytes logBytes ≡ f → Either
+    go (oneRefused v) q = inr (rw (q, session))
+    go (bothTaken ls log) q = the-call ls log q (firstFault (bufferChecks (length ls) (log .horizon) wall own)) refl
 
 module _ (s : Accepted) where
   abbrev H : ℕ
@@ -110,16 +92,19 @@ module _ (s : Accepted) where
     wall-fits : H ≤ length (s .wallLent)
     own-fits : booths s * H ≤ length (s .ownLent)
 
+  files : readFiles (s .tableBytes) (s .logBytes) ≡ bothTaken ls (s .log)
+  files = both-taken (s .tableBytes) (s .logBytes) ls (s .log) (s .table-read) (s .log-read)
+
   is-played : Played
   unfolding session nothingDone bufferChecks refuseIf
   is-played = go (firstFault (bufferChecks (length ls) H (s .wallLent) (s .ownLent))) refl
     where
       go : (f : Option Refusal) → firstFault (bufferChecks (length ls) H (s .wallLent) (s .ownLent)) ≡ f → Played
-      go (some r) q = absurd (no-room r (rw q at (rw (s .log-read) at (rw (s .table-read, session) at (s .accepts)))))
+      go (some r) q = absurd (no-room r (rw q at (rw (files, session) at (s .accepts))))
       go none q =
           let p = no-fault (bufferChecks (length ls) H (s .wallLent) (s .ownLent)) q in
           record {
-            is = rw (s .table-read, session) (rw (s .log-read) (rw q));
+            is = rw (files, session) (rw q);
             wall-fits = ltb-false (length (s .wallLent)) H (p .0);
             own-fits = ltb-false (length (s .ownLent)) (length ls * H) (p .1 .0);
           }

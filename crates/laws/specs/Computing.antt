@@ -13,6 +13,7 @@ use Rattle.rules.specs.ArrivalLog
 use Rattle.rules.specs.ArrivalLog.{Log, readLog}
 use Rattle.rules.specs.Admission
 use Rattle.rules.specs.Admission.{readTable}
+use Rattle.rules.specs.Files
 use Rattle.rules.specs.Due
 use Rattle.rules.specs.Moves
 use Rattle.rules.specs.Session
@@ -29,7 +30,7 @@ unfolding
     BoothTable.lengthAllowed BoothTable.someZero BoothTable.lineChecks BoothTable.recordChecks BoothTable.withPlaced BoothTable.readRecords BoothTable.readLines
     Admission.roundedUp Admission.askedAbove Admission.someUpTo Admission.passes Admission.firstFailing Admission.readTable
     ArrivalLog.logN ArrivalLog.logH ArrivalLog.headChecks ArrivalLog.horizonChecks ArrivalLog.entryAt ArrivalLog.longestJobs ArrivalLog.entryChecks
-    ArrivalLog.withEntry ArrivalLog.readEntries ArrivalLog.withHorizon ArrivalLog.readLog
+    ArrivalLog.withEntry ArrivalLog.readEntries ArrivalLog.withHorizon ArrivalLog.readLog Files.readFiles
     Due.due Due.releasePoint
     Moves.noDemand Moves.addDemand Moves.isReady Moves.addReady Moves.stillWaiting Moves.gather Moves.earlier Moves.earliestPoint Moves.moveTo
     Moves.settleRounds Moves.settle Moves.mayWork Moves.firstTask Moves.loseOne Moves.work Moves.worker Moves.turn Moves.settleAll Moves.play Moves.playTicks
