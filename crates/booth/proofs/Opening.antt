@@ -11,6 +11,7 @@ use Rattle.rules.specs.Moves.{noDemand}
 use Rattle.rules.specs.Session.{freshBooth}
 use Rattle.rules.specs.Values.{lineHeld}
 use Rattle.rules.proofs.Held.{zeros}
+use Rattle.table.proofs.Test.{fit-sound, fit-short}
 use Rattle.table.specs.Fit.{FitLine}
 use Rattle.booth.specs.declared.Booth.{Booth as HeldBooth}
 use Rattle.booth.specs.Shown.{waitingAt, firstOf, shown, Log, Place, Fit, lookingAt, Looked}
@@ -67,7 +68,7 @@ module _ (bs : List ℕ) (number : ℕ) (line : HeldLine) (log : Log bs) (fit : 
   open-fit = (
     record {
       steady = record {
-        sound = subst (λ l. Rattle.table.specs.Fit.Sounds (l .promise)) (sym kept-line) (fit .promise);
+        sound = subst (λ l. Rattle.table.specs.Fit.Sounds (l .promise)) (sym kept-line) (record { period = (fit-sound _ fit) .period; small = fit-short _ fit; allowance = (fit-sound _ fit) .allowance; within = (fit-sound _ fit) .within });
         tasks = subst (λ l. l .tasks ≤ 8) (sym kept-line) (fit .tasks);
         eight = ap length kept-demand;
         rest = λ k h. ap (λ ds. getD ds k 0) kept-demand ∙ zeros 8 k;
