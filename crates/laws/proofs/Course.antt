@@ -17,7 +17,7 @@ use Rattle.rules.specs.ArrivalLog.{Entry}
 use Rattle.rules.specs.Due.{due}
 use Rattle.rules.specs.Moves.{Booth, nobody, noDemand, settle, mayWork, firstTask, work, worker, turn, settleAll}
 use Rattle.rules.specs.Session.{ownEntries, freshBooth, openBooths, settledAt, count, writeRows}
-use Rattle.rules.proofs.Held.{zeros}
+use Rattle.rules.proofs.Held.{zeros, at-set}
 use Rattle.rules.specs.InRange.{Sound}
 use Rattle.laws.specs.Statements.{boothAt}
 use Rattle.laws.proofs.Entries.{Sorted, own-sorted}
@@ -79,14 +79,6 @@ fresh-order l es sound sorted = record { sound = sound; cap = omega arith; sorte
 fresh-size : (l : Line) (es : List Entry) → length ((freshBooth l es) .row) ≡ (freshBooth l es) .u
 unfolding freshBooth
 fresh-size l es = refl
-
--- a list of numbers or booths with another at i
-pub at-set : {A : Type 0} (xs : List A) (i j : ℕ) (x d : A) (P : A → Type 0) → i < length xs → (j ≡ i → P x) → (j ≢ i → P (getD xs j d)) → P (getD (set xs i x) j d)
-at-set xs i j x d P h f g = go (ℕ-discrete j i)
-  where
-    go : Dec (j ≡ i) → P (getD (set xs i x) j d)
-    go (yes e) = subst P (sym (ap (λ k. getD (set xs i x) k d) e ∙ getD-set-same xs i x d h)) (f e)
-    go (no e) = subst P (sym (getD-set-other xs i j x d e)) (g e)
 
 -- ---- what holds on the way
 

@@ -9,6 +9,7 @@ use lib.ListN.{length, length-append}
 use borrow.Author.Tests.{lt-ltb, le-ltb}
 use Rattle.rules.specs.Desk.{digits, decimal, labelled}
 use Rattle.printing.specs.Put.{Put}
+use Rattle.printing.specs.Room.{most-digits}
 
 pub no-digits : (most n : ℕ) → most ≡ 0 → digits most n ≡ []
 unfolding digits
@@ -35,10 +36,10 @@ few-digits (suc most) n = go (few-digits most (n / 10)) (ltb n 10) refl
     go few true e = rw (e, digits) (omega arith)
     go few false e = rw (e, digits) (omega (arith, length-append (digits most (n / 10)) ((48 + n % 10) ∷ []), few))
 
-pub labelled-length : (word : List ℕ) (n : ℕ) → length (labelled word n) ≤ length word + 20
+pub labelled-length : (word : List ℕ) (n : ℕ) → length (labelled word n) ≤ length word + most-digits
 unfolding labelled decimal
-labelled-length word n = omega (arith, length-append word (digits 20 n), few-digits 20 n)
+labelled-length word n = omega (arith, length-append word (digits most-digits n), few-digits most-digits n)
 
 -- where the piece behind a word and its number goes
-pub labelled-ends : (word : List ℕ) (n : ℕ) {at m : ℕ} {a b : List ℕ} → Put at (labelled word n) a b m → m ≤ at + length word + 20
+pub labelled-ends : (word : List ℕ) (n : ℕ) {at m : ℕ} {a b : List ℕ} → Put at (labelled word n) a b m → m ≤ at + length word + most-digits
 labelled-ends word n p = omega (arith, p .behind, labelled-length word n)

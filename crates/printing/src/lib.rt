@@ -5,7 +5,14 @@ ghost use Prim.Native.Nat.{_+_, _≤_};
 ghost use lib.ListN.{length};
 ghost use Rattle.rules.specs.Desk as page;
 ghost use Rattle.printing.specs.Put.{Put};
+ghost use Rattle.printing.specs.Room.{most-digits, refused-room, booth-room};
 use base::Refusal;
+use rules::BOOTHS_ALLOWED;
+
+// No number of 64 bits has more.
+const MOST_DIGITS: usize = 20;
+// Booths and tasks are below it.
+const NO_BOOTH: u8 = BOOTHS_ALLOWED as u8;
 
 // Bytes as they are.
 fn put(out: &mut [u8], at: usize, bytes: &[u8]) -> usize
@@ -23,10 +30,10 @@ fn put(out: &mut [u8], at: usize, bytes: &[u8]) -> usize
 fn letter(byte: u8) -> u8
     ensures { λ r. ⌜ r ≡ page.letter byte ⌝ }
 {
-    if byte < 8 {
-        return 48 + byte;
+    if byte < NO_BOOTH {
+        return b'0' + byte;
     }
-    46
+    b'.'
 }
 
 // A record or a row, a letter for each byte.
@@ -51,25 +58,25 @@ fn put_digits(out: &mut [u8], at: usize, n: usize, most: usize) -> usize
         return at;
     }
     if n < 10 {
-        out[at] = 48 + n as u8;
+        out[at] = b'0' + n as u8;
         return at + 1;
     }
     let next = put_digits(&mut out[..], at, n / 10, most - 1);
-    out[next] = 48 + (n % 10) as u8;
+    out[next] = b'0' + (n % 10) as u8;
     next + 1
 }
 
 // A word and its number.
 fn put_labelled(out: &mut [u8], at: usize, word: &[u8], n: usize) -> usize
-    requires { ⌜ at + length (now word) + 20 ≤ length (now out) ⌝ }
+    requires { ⌜ at + length (now word) + most-digits ≤ length (now out) ⌝ }
     ensures { λ r. ⌜ Put at (page.labelled (now (word .entry)) n) (now (out .entry)) (now (out .exit)) r ⌝ }
 {
     let next = put(&mut out[..], at, word);
-    put_digits(out, next, n, 20)
+    put_digits(out, next, n, MOST_DIGITS)
 }
 
 pub fn number_line(out: &mut [u8], at: usize, word: &[u8], n: usize) -> usize
-    requires { ⌜ at + length (now word) + 21 ≤ length (now out) ⌝ }
+    requires { ⌜ at + length (now word) + most-digits + 1 ≤ length (now out) ⌝ }
     ensures { λ r. ⌜ Put at (page.numberLine (now (word .entry)) n) (now (out .entry)) (now (out .exit)) r ⌝ }
 {
     let next = put_labelled(&mut out[..], at, word, n);
@@ -86,7 +93,7 @@ pub fn record_line(out: &mut [u8], at: usize, word: &[u8], kept: &[u8]) -> usize
 }
 
 pub fn refused_line(out: &mut [u8], what: &[u8], refusal: Refusal) -> usize
-    requires { ⌜ length (now what) + 53 ≤ length (now out) ⌝ }
+    requires { ⌜ length (now what) + refused-room ≤ length (now out) ⌝ }
     ensures { λ r. ⌜ Put 0 (page.refusedLine (now (what .entry)) refusal) (now (out .entry)) (now (out .exit)) r ⌝ }
 {
     let first = put(&mut out[..], 0, b"refused ");
@@ -102,7 +109,7 @@ pub fn booth_line(
     worked: usize,
     row: &[u8],
 ) -> usize
-    requires { ⌜ at + 81 + length (now row) ≤ length (now out) ⌝ }
+    requires { ⌜ at + booth-room + length (now row) ≤ length (now out) ⌝ }
     ensures { λ r. ⌜ Put at (page.boothLine booth clock worked (now (row .entry))) (now (out .entry)) (now (out .exit)) r ⌝ }
 {
     let first = put_labelled(&mut out[..], at, b"booth ", booth);

@@ -13,6 +13,7 @@ use Rattle.rules.specs.RowBack.{rowChecks, rowBack}
 use Rattle.rules.specs.Desk as page
 use Rattle.laws.proofs.Checks.{no-fault}
 use Rattle.printing.specs.Put.{Put}
+use Rattle.text.specs.Answer.{booth-line-room}
 use Rattle.printing.proofs.Digits.{labelled-length}
 use Rattle.printing.proofs.LineLengths.{record-line-length}
 
@@ -27,7 +28,7 @@ row-short own H i u = go (firstFault (rowChecks own H i u)) refl
         let fits = ltb-false H u (no-fault (rowChecks own H i u) q .1 .1 .0) in
         rw (q, rowBack) (omega (arith, length-take u (drop (i * H) own), fits))
 
-pub booth-line-length : (own : List ℕ) (H i u worked : ℕ) → H ≤ 2000 → length (page.boothLine i u worked ((rowBack own H i u) .part)) ≤ 2081
+pub booth-line-length : (own : List ℕ) (H i u worked : ℕ) → H ≤ page.most-ticks → length (page.boothLine i u worked ((rowBack own H i u) .part)) ≤ booth-line-room
 unfolding page.boothLine
 booth-line-length own H i u worked h =
     let row = (rowBack own H i u) .part in
@@ -47,7 +48,7 @@ booth-line-length own H i u worked h =
       labelled-length page.word-worked worked,
     )
 
-pub booth-lines-length : (n H : ℕ) (clocks worked own : List ℕ) → H ≤ 2000 → length (page.boothLines n H clocks worked own) ≤ n * 2081
+pub booth-lines-length : (n H : ℕ) (clocks worked own : List ℕ) → H ≤ page.most-ticks → length (page.boothLines n H clocks worked own) ≤ n * booth-line-room
 unfolding page.boothLines
 booth-lines-length zero H clocks worked own h = omega arith
 booth-lines-length (suc i) H clocks worked own h =
@@ -65,5 +66,5 @@ unfolding page.boothLines
 booth-lines-more i H clocks worked own = ap (λ k. page.boothLines k H clocks worked own) (add-one i)
 
 -- where the piece behind them goes
-pub booth-lines-end : (n H : ℕ) (clocks worked own : List ℕ) {at m : ℕ} {a b : List ℕ} → H ≤ 2000 → Put at (page.boothLines n H clocks worked own) a b m → m ≤ at + n * 2081
+pub booth-lines-end : (n H : ℕ) (clocks worked own : List ℕ) {at m : ℕ} {a b : List ℕ} → H ≤ page.most-ticks → Put at (page.boothLines n H clocks worked own) a b m → m ≤ at + n * booth-line-room
 booth-lines-end n H clocks worked own h p = omega (arith, p .behind, booth-lines-length n H clocks worked own h)

@@ -1,7 +1,7 @@
 -- The text of a session case by case, from its arrays, its input and the buffer lent. Assumes nothing.
 use mathlib.Core.Path.{_≡_, refl, sym, ap, _∙_}
 use mathlib.Core.List.{List, [], _∷_, _++_}
-use Prim.Native.Nat.{ℕ, zero, suc, _+_, _-_, _≤_, _<_}
+use Prim.Native.Nat.{ℕ, zero, suc, _+_, _*_, _-_, _≤_, _<_}
 use native.Mathlib.Omega.{arith}
 use lib.ListN.{length, getD, take, drop, replicate, length-append, length-replicate}
 use borrow.Author.Tests.{lt-ltb, le-ltb}
@@ -9,6 +9,7 @@ use Rattle.rules.specs.declared.Refused.{Refused}
 use Rattle.rules.specs.declared.Refused.the-variants.{Nothing, TheTable, TheLog, TheCall}
 use Rattle.base.specs.Bytes.{written}
 use Rattle.base.specs.Refusals.{refused, refusal}
+use Rattle.rules.specs.BoothTable.{booths-allowed}
 use Rattle.rules.specs.ArrivalLog.{logH}
 use Rattle.rules.specs.Session.{Outcome, session}
 use Rattle.rules.specs.RowBack.{rowBack}
@@ -19,7 +20,7 @@ use Rattle.arrivals.proofs.Entries.{accepted}
 use Rattle.session.specs.declared.SessionAnswer.{SessionAnswer}
 use Rattle.session.specs.Answer.{answered}
 use Rattle.printing.specs.Put.{Put}
-use Rattle.text.specs.Answer.{answerText, textLength, withText}
+use Rattle.text.specs.Answer.{answerText, text-room, textLength, withText}
 use Rattle.text.proofs.Unrefused.{fits}
 
 -- ---- the arrays of eight print as the lists they hold
@@ -45,13 +46,13 @@ answer-prints H o =
 
 -- ---- the input
 
-pub too-long : (input : List ℕ) → 37044 < length input → page.deskText input ≡ page.refusedLine page.word-input (refusal 12 37044)
+pub too-long : (input : List ℕ) → page.most-input < length input → page.deskText input ≡ page.refusedLine page.word-input (refusal 12 page.most-input)
 unfolding page.deskText
-too-long input h = rw (lt-ltb 37044 (length input) h, page.deskText)
+too-long input h = rw (lt-ltb page.most-input (length input) h, page.deskText)
 
-pub in-two-files : (input : List ℕ) → length input ≤ 37044 → page.deskText input ≡ page.sessionText (take (page.tableEnd input) input) (drop (page.tableEnd input) input)
+pub in-two-files : (input : List ℕ) → length input ≤ page.most-input → page.deskText input ≡ page.sessionText (take (page.tableEnd input) input) (drop (page.tableEnd input) input)
 unfolding page.deskText
-in-two-files input h = rw (le-ltb 37044 (length input) h, page.deskText)
+in-two-files input h = rw (le-ltb page.most-input (length input) h, page.deskText)
 
 -- ---- the buffer
 
@@ -59,11 +60,11 @@ piece-fits : (piece lent : List ℕ) → length piece ≤ length (written 0 piec
 unfolding written
 piece-fits piece lent = omega (arith, length-append piece (drop (0 + length piece) lent))
 
-pub buffer-short : (input lent : List ℕ) → length lent < 18710 → (0 ≡ textLength input lent) × ((lent ≡ withText input lent) × (0 ≤ length lent))
+pub buffer-short : (input lent : List ℕ) → length lent < text-room → (0 ≡ textLength input lent) × ((lent ≡ withText input lent) × (0 ≤ length lent))
 unfolding textLength withText
-buffer-short input lent h = (sym (rw (lt-ltb (length lent) 18710 h, textLength)), (sym (rw (lt-ltb (length lent) 18710 h, withText)), omega arith))
+buffer-short input lent h = (sym (rw (lt-ltb (length lent) text-room h, textLength)), (sym (rw (lt-ltb (length lent) text-room h, withText)), omega arith))
 
-pub text-put : (input text lent after : List ℕ) (r : ℕ) → 18710 ≤ length lent → page.deskText input ≡ text → Put 0 text lent after r
+pub text-put : (input text lent after : List ℕ) (r : ℕ) → text-room ≤ length lent → page.deskText input ≡ text → Put 0 text lent after r
     → (r ≡ textLength input lent) × ((after ≡ withText input lent) × (r ≤ length after))
 unfolding textLength withText
 text-put input text lent after r h e p = (
@@ -72,16 +73,16 @@ text-put input text lent after r h e p = (
 )
   where
     counted : textLength input lent ≡ length (page.deskText input)
-    counted = rw (le-ltb (length lent) 18710 h, textLength)
+    counted = rw (le-ltb (length lent) text-room h, textLength)
 
     holds : withText input lent ≡ written 0 (page.deskText input) lent
-    holds = rw (le-ltb (length lent) 18710 h, withText)
+    holds = rw (le-ltb (length lent) text-room h, withText)
 
 -- ---- the session's answer
 
 -- the session in the desk's own records
 unfoldable pub desk-outcome : List ℕ → List ℕ → Outcome
-desk-outcome table log = session table log (replicate 2000 0) (replicate 16000 0)
+desk-outcome table log = session table log (replicate page.most-ticks 0) (replicate (booths-allowed * page.most-ticks) 0)
 
 module _ (table log : List ℕ) where
   refused-prints : (w : Refused) (what : List ℕ) → ((o : Outcome) → page.outcomeText w (logH log) o ≡ page.refusedLine what (o .verdict .refusal))
@@ -119,10 +120,10 @@ module _ (table log : List ℕ) where
       ∙ ap (λ z. page.outcomeText z (logH log) o) (sym (ap (λ v. v .refused) same ∙ h))
 
   -- what the text of an accepted session asks
-  pub answer-fits : (a : SessionAnswer) → a ≡ answered (desk-outcome table log) → a .verdict .refused ≡ Nothing → (9 ≤ length log) × (logH log ≤ 2000) × (a .booths ≤ 8)
+  pub answer-fits : (a : SessionAnswer) → a ≡ answered (desk-outcome table log) → a .verdict .refused ≡ Nothing → (9 ≤ length log) × (logH log ≤ page.most-ticks) × (a .booths ≤ booths-allowed)
   unfolding answered desk-outcome
   answer-fits a e h =
       let o = desk-outcome table log in
       let same : o .verdict ≡ a .verdict = sym (ap (λ x. x .verdict) e) in
-      let f = fits table log (replicate 2000 0) (replicate 16000 0) (ap (λ v. v .refused) same ∙ h) in
-      (f .whole, omega (arith, f .short, length-replicate {A = ℕ} 2000 0), omega (arith, f .few, ap (λ x. x .booths) e))
+      let f = fits table log (replicate page.most-ticks 0) (replicate (booths-allowed * page.most-ticks) 0) (ap (λ v. v .refused) same ∙ h) in
+      (f .whole, omega (arith, f .short, length-replicate {A = ℕ} page.most-ticks 0), omega (arith, f .few, ap (λ x. x .booths) e))

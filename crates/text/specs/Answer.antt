@@ -13,6 +13,10 @@ answerText H a wall own =
     numberLine word-admitted (a .booths)
     ++ (recordLine word-wall (take H wall) ++ (boothLines (a .booths) H (a .clocks) (a .worked) own ++ numberLine word-idle (a .idle)))
 
+-- a booth's line with the longest row
+abbrev pub booth-line-room : ℕ
+booth-line-room = 2_081
+
 -- 2,000 wall ticks of eight booths, each number at its longest: no text is longer
 abbrev pub text-room : ℕ
 text-room = 18_710

@@ -4,18 +4,26 @@ ghost use Prim.Native.Nat.{_+_, _*_, _≤_};
 ghost use lib.ListN.{length};
 ghost use Rattle.rules.specs.Desk as page;
 ghost use Rattle.printing.specs.Put.{Put};
-ghost use Rattle.text.specs.Answer.{answerText, textLength, withText};
+ghost use Rattle.text.specs.Answer.{answerText, text-room, booth-line-room, textLength, withText};
 use base::Refusal;
 use printing::booth_line;
 use printing::number_line;
 use printing::record_line;
 use printing::refused_line;
+use rules::BOOTHS_ALLOWED;
 use rules::Refused;
 use session::SessionAnswer;
 
+// The longest table and the longest log.
+pub const MOST_INPUT: usize = 37044;
+// The longest session that the desk has records for.
+const MOST_TICKS: usize = 2000;
+// No text is longer.
+pub const TEXT_ROOM: usize = 18710;
+
 // A line for each booth, with its row as it is handed back.
 fn booth_lines(out: &mut [u8], at: usize, answer: SessionAnswer, own: &[u8], h: usize) -> usize
-    requires { ⌜ (answer .booths ≤ 8) × (h ≤ 2000) × (at + answer .booths * 2081 ≤ length (now out)) ⌝ }
+    requires { ⌜ (answer .booths ≤ 8) × (h ≤ page.most-ticks) × (at + answer .booths * booth-line-room ≤ length (now out)) ⌝ }
     ensures { λ r. ⌜ Put at (page.boothLines (answer .booths) h (answer .clocks) (answer .worked) (now (own .entry))) (now (out .entry)) (now (out .exit)) r ⌝ }
 {
     let n = answer.booths;
@@ -33,7 +41,7 @@ fn booth_lines(out: &mut [u8], at: usize, answer: SessionAnswer, own: &[u8], h: 
 }
 
 fn admitted_text(out: &mut [u8], answer: SessionAnswer, wall: &[u8], own: &[u8], h: usize) -> usize
-    requires { ⌜ (answer .booths ≤ 8) × (h ≤ 2000) × (h ≤ length (now wall)) × (18710 ≤ length (now out)) ⌝ }
+    requires { ⌜ (answer .booths ≤ 8) × (h ≤ page.most-ticks) × (h ≤ length (now wall)) × (text-room ≤ length (now out)) ⌝ }
     ensures { λ r. ⌜ Put 0 (answerText h answer (now (wall .entry)) (now (own .entry))) (now (out .entry)) (now (out .exit)) r ⌝ }
 {
     let first = number_line(&mut out[..], 0, b"admitted ", answer.booths);
@@ -44,11 +52,11 @@ fn admitted_text(out: &mut [u8], answer: SessionAnswer, wall: &[u8], own: &[u8],
 
 // The session of a table and a log in records of the desk's own, as text.
 fn session_text(out: &mut [u8], table: &[u8], log: &[u8]) -> usize
-    requires { ⌜ 18710 ≤ length (now out) ⌝ }
+    requires { ⌜ text-room ≤ length (now out) ⌝ }
     ensures { λ r. ⌜ Put 0 (page.sessionText (now (table .entry)) (now (log .entry))) (now (out .entry)) (now (out .exit)) r ⌝ }
 {
-    let mut wall = [0u8; 2000];
-    let mut own = [0u8; 16000];
+    let mut wall = [0u8; MOST_TICKS];
+    let mut own = [0u8; BOOTHS_ALLOWED * MOST_TICKS];
     let answer = session::session(table, log, &mut wall, &mut own);
     let verdict = answer.verdict;
     let refusal = verdict.refusal;
@@ -85,13 +93,13 @@ pub fn desk_text(input: &[u8], out: &mut [u8]) -> usize
     ensures text { λ r. ⌜ now (out .exit) ≡ withText (now (input .entry)) (now (out .entry)) ⌝ }
     ensures within { λ r. ⌜ r ≤ length (now (out .exit)) ⌝ }
 {
-    if out.len() < 18710 {
+    if out.len() < TEXT_ROOM {
         return 0;
     }
-    if 37044 < input.len() {
+    if MOST_INPUT < input.len() {
         let refusal = Refusal {
             number: base::TOO_LONG_AN_INPUT,
-            place: 37044,
+            place: MOST_INPUT,
         };
         return refused_line(out, b"input ", refusal);
     }

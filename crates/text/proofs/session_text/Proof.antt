@@ -4,6 +4,7 @@ use native.Mathlib.Omega.{arith}
 use Prim.Native.Nat.{ℕ}
 use lib.ListN.{length, length-replicate}
 use Rattle.rules.specs.ArrivalLog.{logH}
+use Rattle.rules.specs.Desk as page
 use Rattle.session.specs.Answer.{answered}
 use Rattle.printing.specs.Put.{Put}
 use Rattle.text.specs.Answer.{answerText}
@@ -76,7 +77,7 @@ admitted-text-requires c κs =
     let is : s .result ≡ answered (desk-outcome (st .args .table .now) (st .args .log .now)) = s .ensures .0 in
     let fit = answer-fits (st .args .table .now) (st .args .log .now) (s .result) is (c .before .before .before .before .enum-told4 .given .1) in
     let h : c .before .before .before .number32 .result ≡ logH (st .args .log .now) = c .before .before .before .number32 .ensures in
-    let long : length (s .last .1 .1 .0) ≡ 2000 = s .kept .1 .1 .0 ∙ length-replicate {A = ℕ} 2000 0 in
+    let long : length (s .last .1 .1 .0) ≡ page.most-ticks = s .kept .1 .1 .0 ∙ length-replicate {A = ℕ} page.most-ticks 0 in
     (fit .2, omega (arith, fit .1, h), omega (arith, fit .1, h, long), st .pre)
 
 same-length : tie.Need-same-length
