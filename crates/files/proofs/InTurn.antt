@@ -1,5 +1,5 @@
 -- What the two readers' answers say of both files. Assumes nothing.
-use mathlib.Core.Path.{_≡_, sym, ap, _∙_}
+use mathlib.Core.Path.{_≡_, refl, sym, ap, _∙_}
 use mathlib.Core.Logic.{_≢_}
 use mathlib.Core.List.{List}
 use Prim.Native.Nat.{ℕ}
@@ -8,7 +8,7 @@ use Rattle.base.specs.Refusals.{taken, refusal}
 use Rattle.rules.specs.declared.Verdict.{Verdict}
 use Rattle.rules.specs.Verdicts.{accepted}
 use Rattle.rules.specs.Admission.{readTable}
-use Rattle.rules.specs.Files.{bothTaken, oneRefused, readFiles}
+use Rattle.rules.specs.Files.{TwoFiles, bothTaken, oneRefused, readFiles, filesVerdict}
 use Rattle.rules.specs.Values.{heldTable, linesHeld}
 use Rattle.rules.proofs.Held.{lines-held}
 use Rattle.rules.proofs.TwoFiles.{both-taken}
@@ -63,3 +63,12 @@ module _ (tableBytes logBytes : List ℕ) (a : TableAnswer) (k : TableTaken tabl
           };
           refused = λ z. absurd (z (ap (λ w. w .refusal .number) e));
         }
+
+-- the verdict is the one on both files
+pub verdict-is : {tableBytes logBytes : List ℕ} {f : Files} → FilesRead tableBytes logBytes f → f .verdict ≡ filesVerdict tableBytes logBytes
+unfolding told filesVerdict
+verdict-is {tableBytes} {logBytes} r = ap (λ x. x .verdict) (r .is) ∙ go (readFiles tableBytes logBytes) refl
+  where
+    go : (t : TwoFiles) → readFiles tableBytes logBytes ≡ t → (told (readFiles tableBytes logBytes)) .verdict ≡ filesVerdict tableBytes logBytes
+    go (bothTaken ls log) q = rw (q, filesVerdict)
+    go (oneRefused v) q = rw (q, filesVerdict)

@@ -34,7 +34,6 @@ use Rattle.rules.proofs.TwoFiles.{read-in-turn}
 use Rattle.arrivals.proofs.Entries.{Accepted, accepted as accepted-log}
 use Rattle.laws.specs.Statements.{Accepted as Session}
 use Rattle.laws.proofs.Answered.{answers, as-read as read-as, log-is-read}
-use Rattle.laws.proofs.Entries.{Sorted}
 use Rattle.session.specs.Answer.{nothingAnswered}
 use Rattle.session.proofs.AcceptedLog.{entries-are, log-fits, task-fits}
 use Rattle.session.proofs.ByCases.{plays}
