@@ -18,7 +18,7 @@ use Rattle.table.specs.Fit.{FitTable}
 use Rattle.table.proofs.Numbers.{TableTaken}
 use Rattle.arrivals.specs.declared.LogAnswer.{LogAnswer}
 use Rattle.arrivals.specs.Places.{logOf}
-use Rattle.arrivals.proofs.Numbers.{Took}
+use Rattle.arrivals.proofs.LogNumbers.{Took}
 use Rattle.arrivals.proofs.TakenLog.{log-is, whole-log, task-fits}
 use Rattle.files.specs.declared.Files.{Files}
 use Rattle.files.specs.Told.{told, FilesTaken, FilesRead}

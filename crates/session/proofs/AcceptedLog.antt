@@ -1,70 +1,42 @@
 -- What the engine may take for granted of an accepted log. Assumes nothing.
 use mathlib.Core.Path.{_≡_, refl, sym, ap, _∙_, subst}
-use mathlib.Core.List.{List, [], _∷_, _++_, map}
-use Prim.Native.Nat.{ℕ, zero, suc, _+_, _-_, _*_, _/_, _%_, _≤_, _<_}
-use native.Mathlib.Nat.{not-suc-le-zero, le-of-suc-le-suc}
-use native.Mathlib.Omega.{arith}
-use lib.ListN.{length, getD, take}
-use lib.Seq.{ext-getD}
-use Rattle.rules.specs.declared.Table.{Table}
-use Rattle.rules.specs.BoothTable.{Line, no-line}
-use Rattle.rules.specs.ArrivalLog.{Entry, Log, entryAt, longestJobs}
-use Rattle.rules.specs.Values.{lineHeld, linesHeld, no-held-line}
-use Rattle.laws.specs.Statements.{no-entry}
-use Rattle.laws.proofs.Entries.{Sorted}
-use Rattle.arrivals.proofs.Entries.{Accepted, FitEntry}
-use Rattle.table.specs.Fit.{FitTable, FitLine}
-use Rattle.table.proofs.Test.{held-at}
+use mathlib.Core.List.{List, [], _∷_}
+use Prim.Native.Nat.{ℕ, zero, suc, _+_, _-_, _/_, _<_}
+use lib.ListN.{length, getD}
+use Rattle.rules.specs.ArrivalLog.{Entry, entryAt}
+use Rattle.rules.specs.Values.{no-held-line}
+use Rattle.laws.specs.Ordered.{Sorted}
+use Rattle.arrivals.specs.Places as places
+use Rattle.files.specs.declared.Files.{Files}
+use Rattle.files.specs.Told.{FilesTaken}
 use Rattle.booth.specs.Shown as shows
 use Rattle.booth.specs.Shown.{entriesFrom, Place}
 use Rattle.session.specs.Running.{entriesOf}
 
-length-from : (n : ℕ) (bs : List ℕ) (at : ℕ) → length (entriesFrom n bs at) ≡ n
-unfolding entriesFrom
-length-from zero bs at = refl
-length-from (suc n) bs at = ap suc (length-from n bs (at + 9))
+same-from : (n : ℕ) (bs : List ℕ) (at : ℕ) → places.entriesFrom n bs at ≡ entriesFrom n bs at
+unfolding entriesFrom places.entriesFrom
+same-from zero bs at = refl
+same-from (suc n) bs at = ap (λ es. entryAt bs at ∷ es) (same-from n bs (at + 9))
 
-from-at : (n : ℕ) (bs : List ℕ) (at i : ℕ) (d : Entry) → i < n → getD (entriesFrom n bs at) i d ≡ entryAt bs (at + 9 * i)
-unfolding entriesFrom
-from-at zero bs at i d h = absurd (not-suc-le-zero h)
-from-at (suc n) bs at zero d h = ap (entryAt bs) (omega arith)
-from-at (suc n) bs at (suc i) d h = from-at n bs (at + 9) i d (le-of-suc-le-suc h) ∙ ap (entryAt bs) (omega arith)
+pub same-entries : (bs : List ℕ) → places.entriesOf bs ≡ entriesOf bs
+unfolding entriesOf places.entriesOf
+same-entries bs = same-from ((length bs - 9) / 9) bs 9
 
--- an accepted log's entries are those that lie in its bytes
-pub entries-are : (ls : List Line) (bs : List ℕ) (log : Log) → Accepted ls bs log → log .entries ≡ entriesOf bs
-unfolding entriesOf
-entries-are ls bs log a =
-    let n : (length bs - 9) / 9 ≡ length (log .entries) = omega (arith, a .whole) in
-    ext-getD no-entry (log .entries) (entriesFrom ((length bs - 9) / 9) bs 9) (sym (length-from ((length bs - 9) / 9) bs 9 ∙ n))
-    (λ i l. a .each i no-entry l ∙ sym (from-at ((length bs - 9) / 9) bs 9 i no-entry (omega arith)))
+same-place : {bs : List ℕ} {at : ℕ} → Place bs at → places.Place bs at
+same-place p = record { from = p .from; inside = p .inside; whole = p .whole }
 
--- which entry lies at a place
-pub place-index : (bs : List ℕ) (at n : ℕ) → length bs ≡ 9 + 9 * n → Place bs at → at < length bs → ((at - 9) / 9 < n) × (9 + 9 * ((at - 9) / 9) ≡ at)
-place-index bs at n whole p l = (omega (arith, p .from, p .whole, p .inside), omega (arith, p .from, p .whole, p .inside))
+module _ (tableBytes bs : List ℕ) (f : Files) (k : FilesTaken tableBytes bs f) where
+  pub log-fits : shows.Log bs
+  log-fits =
+      let l = k .whole in
+      record {
+        header = l .header;
+        short = l .short;
+        whole = l .whole;
+        demands = λ at p. l .demands at (same-place p);
+        sorted = subst Sorted (same-from ((length bs - 9) / 9) bs 9) (l .sorted);
+      }
 
-pub entry-fits : (ls : List Line) (bs : List ℕ) (log : Log) → Accepted ls bs log → (at : ℕ) → Place bs at → at < length bs → FitEntry ls (log .horizon) (entryAt bs at)
-entry-fits ls bs log a at p l =
-    let q = place-index bs at (length (log .entries)) (a .whole) p l in
-    subst (λ x. FitEntry ls (log .horizon) (entryAt bs x)) (q .1) (a .fit ((at - 9) / 9) (q .0))
-
-pub log-fits : (ls : List Line) (bs : List ℕ) (log : Log) → Accepted ls bs log → Sorted (log .entries) → shows.Log bs
-log-fits ls bs log a sorted =
-    record {
-      header = omega (arith, a .whole);
-      short = omega (arith, a .whole, a .few);
-      whole = omega (arith, a .whole);
-      demands = λ at p l. omega (arith, (entry-fits ls bs log a at p l) .least);
-      sorted = unfold entriesOf in (subst Sorted (entries-are ls bs log a) sorted);
-    }
-
--- an entry's task is one of its booth's
-pub task-fits : (table : Table) (bs : List ℕ) (log : Log) → FitTable table → Accepted (linesHeld table) bs log → (j at : ℕ) → j < table .booths → Place bs at → at < length bs
-    → (entryAt bs at) .booth ≡ j → (entryAt bs at) .task < (getD (table .lines) j no-held-line) .tasks
-unfolding linesHeld longestJobs lineHeld no-line
-task-fits table bs log fit a j at h p l e =
-    let f = (entry-fits (linesHeld table) bs log a at p l) .task in
-    let line : getD (linesHeld table) ((entryAt bs at) .booth) no-line ≡ lineHeld (getD (table .lines) j no-held-line) =
-    ap (λ k. getD (linesHeld table) k no-line) e ∙ held-at (table .lines) (table .booths) j h in
-    let size = ap (λ x. length (x .longest)) line in
-    let short = lib.ListN.length-take ((getD (table .lines) j no-held-line) .tasks) ((getD (table .lines) j no-held-line) .longest) in
-    omega arith
+  -- an entry's task is one of its booth's
+  pub task-fits : (j at : ℕ) → j < f .table .booths → Place bs at → at < length bs → (entryAt bs at) .booth ≡ j → (entryAt bs at) .task < (getD (f .table .lines) j no-held-line) .tasks
+  task-fits j at h p = k .tasks j at h (same-place p)

@@ -31,11 +31,10 @@ use Rattle.arrivals.specs.Places as places
 use Rattle.files.specs.declared.Files.{Files}
 use Rattle.files.specs.Told.{FilesTaken}
 use Rattle.rules.proofs.TwoFiles.{read-in-turn}
-use Rattle.arrivals.proofs.Entries.{Accepted, accepted as accepted-log}
 use Rattle.laws.specs.Statements.{Accepted as Session}
-use Rattle.laws.proofs.Answered.{answers, as-read as read-as, log-is-read}
+use Rattle.laws.proofs.Answered.{answers, as-read as read-as}
 use Rattle.session.specs.Answer.{nothingAnswered}
-use Rattle.session.proofs.AcceptedLog.{entries-are, log-fits, task-fits}
+use Rattle.session.proofs.AcceptedLog.{same-entries, log-fits, task-fits}
 use Rattle.session.proofs.ByCases.{plays}
 use Rattle.session.specs.declared.SessionAnswer.{SessionAnswer}
 use Rattle.session.specs.declared.Stage.{Stage}
@@ -197,9 +196,6 @@ module _ (tableBytes logBytes wall own : List ℕ) (f : Files) (k : FilesTaken t
   unfolding log
   read = read-in-turn tableBytes logBytes ls log (k .read)
 
-  known : Accepted ls logBytes log
-  known = accepted-log ls logBytes log (read .1)
-
   module _ (wall-room : H ≤ length wall) (own-room : f .table .booths * H ≤ length own) where
     own-fits : length ls * H ≤ length own
     own-fits = omega (arith, ap (λ m. m * H) (lines-in (f .table) (k .fit)))
@@ -220,23 +216,23 @@ module _ (tableBytes logBytes wall own : List ℕ) (f : Files) (k : FilesTaken t
         }
 
     pub playable : Playable (f .table) logBytes wall own H
-    unfolding whole
+    unfolding whole log places.logOf
     playable =
         record {
           opening = record {
             fit = k .fit;
-            log = log-fits ls logBytes log known ((log-is-read whole) .sorted);
-            own = λ j at h p l e. task-fits (f .table) logBytes log (k .fit) known j at h p l e;
+            log = log-fits tableBytes logBytes f k;
+            own = task-fits tableBytes logBytes f k;
           };
-          as-read = subst (AsRead ls) (entries-are ls logBytes log known) (read-as whole);
+          as-read = subst (AsRead ls) (same-entries logBytes) (read-as whole);
           ticks = k .short;
           wall-room = wall-room;
           own-room = own-room;
         }
 
     log-is : logOf H logBytes ≡ places.logOf H logBytes
-    unfolding logOf places.logOf log
-    log-is = ap (λ es. record { horizon = H; entries = es }) (sym (entries-are ls logBytes log known))
+    unfolding logOf places.logOf
+    log-is = ap (λ es. record { horizon = H; entries = es }) (sym (same-entries logBytes))
 
     pub plays-it : session tableBytes logBytes wall own ≡ played ls (logOf H logBytes) wall own
     unfolding places.logOf

@@ -2,7 +2,7 @@
 use Rattle.rules.specs.Verdicts.{refusedAs}
 use Rattle.rules.proofs.TwoFiles.{table-refused, log-refused}
 use Rattle.table.proofs.Numbers.{TableTaken, answer-taken, answer-refused}
-use Rattle.arrivals.proofs.Numbers.{number-zero, number-not-zero}
+use Rattle.arrivals.proofs.LogNumbers.{number-zero, number-not-zero}
 use Rattle.files.proofs.InTurn.{refused-so, lines-taken, taken-so}
 use borrow.Author.Needs.{needs}
 use Rattle.files.proofs.read_files.Statement.{statement}
