@@ -19,6 +19,7 @@ told (oneRefused v) = record { verdict = v; table = heldTable []; horizon = 0 }
 
 -- a table within its limits, a whole log whose bytes hold the entries that were read, and no task that its booth does not have
 pub record FilesTaken (tableBytes logBytes : List ℕ) (f : Files) : Type 0 where
+  pub verdict : f .verdict ≡ accepted
   pub read : readFiles tableBytes logBytes ≡ bothTaken (linesHeld (f .table)) (logOf (f .horizon) logBytes)
   pub fit : FitTable (f .table)
   pub whole : WholeLog logBytes

@@ -48,15 +48,8 @@ pub fn read_files(table: &[u8], log: &[u8]) -> Files
     if log_refusal.number != 0 {
         return refused_file(Refused::TheLog, log_refusal);
     }
-    let verdict = Verdict {
-        refused: Refused::Nothing,
-        refusal: Refusal {
-            number: 0,
-            place: 0,
-        },
-    };
     Files {
-        verdict,
+        verdict: rules::accepted(),
         table: held,
         horizon: logged.horizon,
     }

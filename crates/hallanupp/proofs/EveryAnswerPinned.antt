@@ -12,7 +12,8 @@ use Rattle.rules.specs.Panel as shares
 use Rattle.session.specs.Answer.{answered}
 use Rattle.text.specs.Answer.{textLength, withText}
 use Rattle.hallanupp.specs.OneReply.{Lives, Call, Asks, Tells, Reply, Meets, Replies, OneReply}
-use Rattle.hallanupp.specs.Verdicts.{tableVerdict, filesVerdict, inC}
+use Rattle.rules.specs.Files.{filesVerdict}
+use Rattle.hallanupp.specs.Verdicts.{tableVerdict, inC}
 use Rattle.hallanupp.specs.RowInC.{rowInC}
 use Rattle.hallanupp.specs.PanelInC.{panelInC}
 use Rattle.hallanupp.specs.SessionInC.{sessionInC}

@@ -1,4 +1,4 @@
--- The verdict on a table, on a table with a log, and how a verdict stands in a C struct.
+-- The verdict on a table, and how a verdict stands in a C struct.
 use mathlib.Core.List.{List}
 use Prim.Native.Nat.{ℕ}
 use Rattle.base.specs.declared.Refusal.{Refusal}
@@ -7,20 +7,11 @@ use Rattle.rules.specs.declared.Refused.the-variants.{Nothing, TheTable, TheLog
 use Rattle.rules.specs.declared.Verdict.{Verdict}
 use Rattle.base.specs.Refusals.{Taken, taken, refused}
 use Rattle.rules.specs.Verdicts.{accepted, refusedAs}
-use Rattle.rules.specs.ArrivalLog.{readLog}
 use Rattle.rules.specs.Admission.{readTable}
 use Rattle.hallanupp.specs.declared.CVerdict.{CVerdict}
 
 unfoldable pub tableVerdict : List ℕ → Verdict
 tableVerdict tableBytes = elim (readTable tableBytes) [ refused r ↦ refusedAs TheTable r | taken ls ↦ accepted ]
-
--- the table first
-unfoldable pub filesVerdict : List ℕ → List ℕ → Verdict
-filesVerdict tableBytes logBytes =
-    elim (readTable tableBytes) [
-      | refused r ↦ refusedAs TheTable r
-      | taken ls ↦ elim (readLog ls logBytes) [ refused r ↦ refusedAs TheLog r | taken log ↦ accepted ]
-    ]
 
 unfoldable pub refusedInC : ℕ → Refusal → CVerdict
 refusedInC what r = record { refused = what; number = r .number; place = r .place }

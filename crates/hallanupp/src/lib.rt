@@ -1,6 +1,8 @@
 // The C boundary: thin functions over the proved readers. include/hallanupp.h documents each for its callers.
 ghost use mathlib.Core.Path.{_≡_};
-ghost use Rattle.hallanupp.specs.Verdicts.{tableVerdict, filesVerdict, inC, refusedInC};
+ghost use Rattle.rules.specs.Files.{filesVerdict};
+ghost use Rattle.hallanupp.specs.Verdicts.{tableVerdict, inC, refusedInC};
+use crate::parts::in_c;
 use base::Refusal;
 
 mod panels;
@@ -46,20 +48,6 @@ pub extern "C" fn hallanupp_table_verdict(table: &[u8]) -> CVerdict
 pub extern "C" fn hallanupp_files_verdict(table: &[u8], log: &[u8]) -> CVerdict
     ensures { λ r. ⌜ r ≡ inC (filesVerdict (now (table .entry)) (now (log .entry))) ⌝ }
 {
-    let read = table::read_table(table);
-    let refusal = read.refusal;
-    if refusal.number != 0 {
-        return c_verdict(1, refusal);
-    }
-    let lines = read.table;
-    let logged = arrivals::read_log(lines, log);
-    let log_refusal = logged.refusal;
-    if log_refusal.number != 0 {
-        return c_verdict(2, log_refusal);
-    }
-    let none = Refusal {
-        number: 0,
-        place: 0,
-    };
-    c_verdict(0, none)
+    let files = files::read_files(table, log);
+    in_c(files.verdict)
 }

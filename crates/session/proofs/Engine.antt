@@ -33,7 +33,8 @@ use Rattle.booth.specs.declared.Asked.{Asked}
 use Rattle.booth.specs.declared.Booth.{Booth as HeldBooth}
 use Rattle.booth.specs.BoothHeld.{AfterSettle, AfterAsk, shown, asked, wakesAt, Fit}
 use Rattle.booth.proofs.Working.{asleep-until}
-use Rattle.session.specs.Running.{entriesOf, nowhere, Same, Alike, Set, Running, Ready, NextAwake, Ending, Ended, OpenedTo}
+use Rattle.arrivals.specs.Places.{entriesOf}
+use Rattle.session.specs.Running.{nowhere, Same, Alike, Set, Running, Ready, NextAwake, Ending, Ended, OpenedTo}
 
 -- ---- what a held booth shows
 

@@ -11,7 +11,7 @@ use Rattle.rules.specs.declared.Refused.the-variants.{Nothing}
 use Rattle.base.specs.Bytes.{written}
 use Rattle.base.specs.Refusals.{refusal}
 use Rattle.rules.specs.Verdicts.{accepted}
-use Rattle.rules.specs.BoothTable.{no-line}
+use Rattle.rules.specs.BoothTable.{Line, no-line}
 use Rattle.rules.specs.ArrivalLog.{Entry, Log}
 use Rattle.rules.specs.Moves.{Booth, nobody}
 use Rattle.rules.specs.Session.{ownEntries, freshBooth, openBooths, settledAt, count, workedFrom, writeRows, played}
@@ -27,20 +27,19 @@ use Rattle.base.specs.Refusals.{taken}
 use Rattle.rules.specs.ArrivalLog.{readLog}
 use Rattle.rules.specs.Admission.{readTable}
 use Rattle.rules.specs.Session.{Outcome, nothingDone, session}
-use Rattle.rules.proofs.Held.{zeros, lines-held}
-use Rattle.table.specs.declared.TableAnswer.{TableAnswer}
-use Rattle.table.specs.Fit.{FitTable}
-use Rattle.table.proofs.Numbers.{TableTaken}
-use Rattle.arrivals.proofs.Entries.{Accepted, accepted as accepted-log}
+use Rattle.rules.proofs.Held.{zeros}
+use Rattle.files.specs.declared.Files.{Files}
+use Rattle.files.specs.Told.{FilesTaken}
+use Rattle.rules.proofs.TwoFiles.{read-in-turn}
 use Rattle.laws.specs.Statements.{Accepted as Session}
-use Rattle.laws.proofs.Answered.{answers, as-read as read-as, log-is-read}
+use Rattle.laws.proofs.Answered.{answers, as-read as read-as}
 use Rattle.session.specs.Answer.{nothingAnswered}
-use Rattle.session.proofs.AcceptedLog.{entries-are, log-fits, task-fits}
 use Rattle.session.proofs.ByCases.{plays}
 use Rattle.session.specs.declared.SessionAnswer.{SessionAnswer}
 use Rattle.session.specs.declared.Stage.{Stage}
 use Rattle.session.specs.Answer.{answered}
-use Rattle.session.specs.Running.{entriesOf, logOf, nowhere, Same, Alike, Running, OpenedTo, Ready, Through, Ending, Ended, Playable}
+use Rattle.arrivals.specs.Places.{entriesOf, logOf}
+use Rattle.session.specs.Running.{nowhere, Same, Alike, Running, OpenedTo, Ready, Through, Ending, Ended, Playable}
 use Rattle.session.proofs.Engine.{shown-same, clocks-are, worked-are}
 
 -- an accepted answer with these figures
@@ -166,62 +165,54 @@ pub refused-all : (o : Outcome) (v : Verdict) (wall own : List ℕ) (a : Session
 unfolding answered nothingAnswered nothingDone
 refused-all o v wall own a e is = (is ∙ sym (ap answered e), (sym (ap (λ x. x .wall) e), sym (ap (λ x. x .own) e)))
 
-module _ (tableBytes logBytes wall own : List ℕ) (a : TableAnswer) (k : TableTaken tableBytes a) (fit : FitTable (a .table)) (log : Log)
-    (log-read : readLog (linesHeld (a .table)) logBytes ≡ taken log) where
-  held : linesHeld (a .table) ≡ k .lines
-  held = ap linesHeld (k .held) ∙ lines-held (k .lines)
+module _ (tableBytes logBytes wall own : List ℕ) (f : Files) (k : FilesTaken tableBytes logBytes f) where
+  abbrev H : ℕ
+  H = f .horizon
 
-  pub table-read : readTable tableBytes ≡ taken (linesHeld (a .table))
-  table-read = k .read ∙ ap taken (sym held)
+  abbrev ls : List Line
+  ls = linesHeld (f .table)
 
-  known : Accepted (linesHeld (a .table)) logBytes log
-  known = accepted-log (linesHeld (a .table)) logBytes log log-read
+  log : Log
+  log = logOf H logBytes
 
-  module _ (H : ℕ) (ticks : H ≡ log .horizon) (wall-room : H ≤ length wall) (own-room : a .table .booths * H ≤ length own) where
-    wall-fits : log .horizon ≤ length wall
-    wall-fits = omega arith
+  read : (readTable tableBytes ≡ taken ls) × (readLog ls logBytes ≡ taken log)
+  unfolding log
+  read = read-in-turn tableBytes logBytes ls log (k .read)
 
-    own-fits : length (linesHeld (a .table)) * log .horizon ≤ length own
-    own-fits = subst (λ m. length (linesHeld (a .table)) * m ≤ length own) ticks (omega (arith, ap (λ m. m * H) (lines-in (a .table) fit)))
+  module _ (wall-room : H ≤ length wall) (own-room : f .table .booths * H ≤ length own) where
+    own-fits : length ls * H ≤ length own
+    own-fits = omega (arith, ap (λ m. m * H) (lines-in (f .table) (k .fit)))
 
     whole : Session
+    unfolding log logOf
     whole =
         record {
           tableBytes = tableBytes;
           logBytes = logBytes;
           wallLent = wall;
           ownLent = own;
-          accepts = answers tableBytes logBytes wall own (linesHeld (a .table)) log table-read log-read wall-fits own-fits;
-          table = linesHeld (a .table);
+          accepts = answers tableBytes logBytes wall own ls log (read .0) (read .1) wall-room own-fits;
+          table = ls;
           log = log;
-          table-read = table-read;
-          log-read = log-read;
+          table-read = read .0;
+          log-read = read .1;
         }
 
-    sorted : Sorted (log .entries)
-    unfolding whole
-    sorted = (log-is-read whole) .sorted
-
-    pub playable : Playable (a .table) logBytes wall own H
-    unfolding whole
+    pub playable : Playable (f .table) logBytes wall own H
+    unfolding whole log logOf
     playable =
         record {
           opening = record {
-            fit = fit;
-            log = log-fits (linesHeld (a .table)) logBytes log known sorted;
-            own = λ j at h p l e. task-fits (a .table) logBytes log fit known j at h p l e;
+            fit = k .fit;
+            log = k .whole;
+            own = k .tasks;
           };
-          as-read = subst (AsRead (linesHeld (a .table))) (entries-are (linesHeld (a .table)) logBytes log known) (read-as whole);
-          ticks = omega (arith, known .session);
+          as-read = read-as whole;
+          ticks = k .short;
           wall-room = wall-room;
           own-room = own-room;
         }
 
-    log-is : logOf H logBytes ≡ log
+    pub plays-it : session tableBytes logBytes wall own ≡ played ls (logOf H logBytes) wall own
     unfolding logOf
-    log-is =
-        ap (λ h. record { horizon = h; entries = entriesOf logBytes }) ticks
-        ∙ ap (λ es. record { horizon = log .horizon; entries = es }) (sym (entries-are (linesHeld (a .table)) logBytes log known))
-
-    pub plays-it : session tableBytes logBytes wall own ≡ played (linesHeld (a .table)) (logOf H logBytes) wall own
-    plays-it = plays tableBytes logBytes wall own (linesHeld (a .table)) table-read log log-read wall-fits own-fits ∙ ap (λ l. played (linesHeld (a .table)) l wall own) (sym log-is)
+    plays-it = plays tableBytes logBytes wall own ls (logOf H logBytes) (k .read) wall-room own-fits

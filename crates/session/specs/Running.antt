@@ -11,18 +11,11 @@ use Rattle.rules.specs.Moves.{Booth}
 use Rattle.rules.specs.Session.{ownEntries, freshBooth}
 use Rattle.rules.specs.Values.{padded, lineHeld, linesHeld, no-held-line}
 use Rattle.table.specs.Fit.{FitTable}
-use Rattle.arrivals.specs.Places.{entriesFrom, waitingAt, Place, WholeLog}
+use Rattle.arrivals.specs.Places.{entriesFrom, waitingAt, Place, WholeLog, entriesOf}
 use Rattle.laws.specs.Courses.{AsRead, nobooth, Course, Closing}
 use Rattle.booth.specs.declared.Booth.{Booth as HeldBooth}
 use Rattle.booth.specs.BoothHeld.{shown, Fit}
 use Rattle.session.specs.declared.Stage.{Stage}
-
--- the entries of an accepted log, and the log with its wall ticks
-unfoldable pub entriesOf : List ℕ → List Entry
-entriesOf bs = entriesFrom ((length bs - 9) / 9) bs 9
-
-unfoldable pub logOf : ℕ → List ℕ → Log
-logOf H bs = record { horizon = H; entries = entriesOf bs }
 
 -- stands past the end of an array of booths, where nothing is read
 abbrev pub nowhere : HeldBooth

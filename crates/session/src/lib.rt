@@ -1,14 +1,12 @@
-// The plain engine: table, then log, then buffers, then every wall tick in turn, then all booths settle at H.
+// The plain engine: the files, then buffers, then every wall tick in turn, then all booths settle at H.
 ghost use mathlib.Core.Path.{_≡_};
 ghost use Prim.Native.Nat.{_+_, _*_, _≤_, _<_};
 ghost use lib.ListN.{length};
-ghost use Rattle.rules.specs.declared.Refused.the-variants.{TheCall};
-ghost use Rattle.base.specs.Refusals.{refusal};
-ghost use Rattle.rules.specs.Verdicts.{refusedAs};
 ghost use Rattle.rules.specs.Session as page;
 ghost use Rattle.rules.specs.Values.{linesHeld};
 ghost use Rattle.session.specs.Answer as said;
-ghost use Rattle.session.specs.Running.{logOf, ToOpen, Opened, Ready, NextAwake, Ran, Ended, Closed, Clocks, Playable};
+ghost use Rattle.arrivals.specs.Places.{logOf};
+ghost use Rattle.session.specs.Running.{ToOpen, Opened, Ready, NextAwake, Ran, Ended, Closed, Clocks, Playable};
 use base::Refusal;
 use booth::Booth;
 use rules::BOOTHS_ALLOWED;
@@ -190,10 +188,9 @@ fn play_all(table: Table, log: &[u8], wall: &mut [u8], own: &mut [u8], h: usize)
 }
 
 // Nothing is done, and every count is 0.
-fn nothing_done(refused: Refused, refusal: Refusal) -> SessionAnswer
-    ensures { λ r. ⌜ r ≡ said.nothingAnswered (refusedAs refused refusal) ⌝ }
+fn nothing_done(verdict: Verdict) -> SessionAnswer
+    ensures { λ r. ⌜ r ≡ said.nothingAnswered verdict ⌝ }
 {
-    let verdict = Verdict { refused, refusal };
     SessionAnswer {
         verdict,
         booths: 0,
@@ -209,27 +206,26 @@ pub fn session(table: &[u8], log: &[u8], wall: &mut [u8], own: &mut [u8]) -> Ses
     ensures wall { λ r. ⌜ now (wall .exit) ≡ (page.session (now (table .entry)) (now (log .entry)) (now (wall .entry)) (now (own .entry))) .wall ⌝ }
     ensures own { λ r. ⌜ now (own .exit) ≡ (page.session (now (table .entry)) (now (log .entry)) (now (wall .entry)) (now (own .entry))) .own ⌝ }
 {
-    let read = table::read_table(table);
-    let table_refusal = read.refusal;
-    if table_refusal.number != 0 {
-        return nothing_done(Refused::TheTable, table_refusal);
+    let files = files::read_files(table, log);
+    let verdict = files.verdict;
+    let refusal = verdict.refusal;
+    if refusal.number != 0 {
+        return nothing_done(verdict);
     }
-    let lines = read.table;
-    let logged = arrivals::read_log(lines, log);
-    let log_refusal = logged.refusal;
-    if log_refusal.number != 0 {
-        return nothing_done(Refused::TheLog, log_refusal);
-    }
-    let h = logged.horizon as usize;
-    let unfit = Refusal {
-        number: base::DOES_NOT_FIT,
-        place: 0,
+    let lines = files.table;
+    let h = files.horizon as usize;
+    let unfit = Verdict {
+        refused: Refused::TheCall,
+        refusal: Refusal {
+            number: base::DOES_NOT_FIT,
+            place: 0,
+        },
     };
     if wall.len() < h {
-        return nothing_done(Refused::TheCall, unfit);
+        return nothing_done(unfit);
     }
     if own.len() < lines.booths * h {
-        return nothing_done(Refused::TheCall, unfit);
+        return nothing_done(unfit);
     }
     play_all(lines, log, wall, own, h)
 }

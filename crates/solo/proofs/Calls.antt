@@ -6,14 +6,15 @@ use Prim.Native.Nat.{ℕ, _≤_, _<_}
 use borrow.Author.Tests.{le-leb, lt-leb, lt-ltb, le-ltb, leb-false, ltb-false}
 use lib.ListN.{length, getD}
 use Rattle.base.specs.declared.Refusal.{Refusal}
-use Rattle.rules.specs.declared.Refused.the-variants.{TheTable, TheLog, TheCall}
+use Rattle.rules.specs.declared.Refused.the-variants.{TheCall}
 use Rattle.rules.specs.declared.Table.{Table as HeldTable}
+use Rattle.rules.specs.declared.Verdict.{Verdict}
 use Rattle.base.specs.Bytes.{written}
-use Rattle.base.specs.Refusals.{taken, refused, refusal, refuseIf, firstFault}
+use Rattle.base.specs.Refusals.{refusal, refuseIf, firstFault}
 use Rattle.rules.specs.Verdicts.{accepted, refusedAs}
 use Rattle.rules.specs.BoothTable.{Line, no-line}
-use Rattle.rules.specs.ArrivalLog.{Log, readLog}
-use Rattle.rules.specs.Admission.{readTable}
+use Rattle.rules.specs.ArrivalLog.{Log}
+use Rattle.rules.specs.Files.{bothTaken, oneRefused, readFiles}
 use Rattle.rules.specs.Due.{due}
 use Rattle.rules.specs.Session.{ownEntries}
 use Rattle.rules.specs.SoloPart.{solo, soloChecks, askSolo}
@@ -63,22 +64,17 @@ call-passed ls H booth n buffer e =
 -- ---- the outcome
 
 module _ (tableBytes logBytes : List ℕ) (booth n : ℕ) (buffer : List ℕ) where
-  pub bad-table : (r : Refusal) → readTable tableBytes ≡ refused r → askSolo tableBytes logBytes booth n buffer ≡ record { verdict = refusedAs TheTable r; buffer = buffer }
+  pub bad-files : (v : Verdict) → readFiles tableBytes logBytes ≡ oneRefused v → askSolo tableBytes logBytes booth n buffer ≡ record { verdict = v; buffer = buffer }
   unfolding askSolo
-  bad-table r e = rw (e, askSolo)
+  bad-files v e = rw (e, askSolo)
 
-  module _ (ls : List Line) (q : readTable tableBytes ≡ taken ls) where
-    pub bad-log : (r : Refusal) → readLog ls logBytes ≡ refused r → askSolo tableBytes logBytes booth n buffer ≡ record { verdict = refusedAs TheLog r; buffer = buffer }
+  module _ (ls : List Line) (log : Log) (q : readFiles tableBytes logBytes ≡ bothTaken ls log) where
+    pub bad-call : (r : Refusal) → firstFault (soloChecks ls (log .horizon) booth n buffer) ≡ some r
+        → askSolo tableBytes logBytes booth n buffer ≡ record { verdict = refusedAs TheCall r; buffer = buffer }
     unfolding askSolo
-    bad-log r e = rw (q, askSolo) (rw e)
+    bad-call r e = rw (q, askSolo) (rw e)
 
-    module _ (log : Log) (p : readLog ls logBytes ≡ taken log) where
-      pub bad-call : (r : Refusal) → firstFault (soloChecks ls (log .horizon) booth n buffer) ≡ some r
-          → askSolo tableBytes logBytes booth n buffer ≡ record { verdict = refusedAs TheCall r; buffer = buffer }
-      unfolding askSolo
-      bad-call r e = rw (q, askSolo) (rw p (rw e))
-
-      pub part-written : firstFault (soloChecks ls (log .horizon) booth n buffer) ≡ none
-          → askSolo tableBytes logBytes booth n buffer ≡ record { verdict = accepted; buffer = written 0 (solo (getD ls booth no-line) (ownEntries booth (log .entries)) n) buffer }
-      unfolding askSolo
-      part-written e = rw (q, askSolo) (rw p (rw e))
+    pub part-written : firstFault (soloChecks ls (log .horizon) booth n buffer) ≡ none
+        → askSolo tableBytes logBytes booth n buffer ≡ record { verdict = accepted; buffer = written 0 (solo (getD ls booth no-line) (ownEntries booth (log .entries)) n) buffer }
+    unfolding askSolo
+    part-written e = rw (q, askSolo) (rw e)

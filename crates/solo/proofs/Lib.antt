@@ -1,4 +1,4 @@
-pub mod Asking
+pub mod AskedSoFar
 pub mod FirstTask
 pub mod Playing
 pub mod Calls

@@ -15,7 +15,6 @@ ghost use Rattle.arrivals.specs.Places.{Place, waitingAt};
 ghost use Rattle.solo.specs.Alone.{Alone, Point, Plays, Admitted, Passed, ownTick};
 use arrivals::FIRST_ENTRY;
 use base::Fault;
-use base::Refusal;
 use rules::ENTRY_BYTES;
 use rules::Line;
 use rules::OwnTick;
@@ -157,24 +156,14 @@ pub fn solo_part(table: &[u8], log: &[u8], booth: usize, n: usize, part: &mut [u
     ensures verdict { λ r. ⌜ r ≡ (page.askSolo (now (table .entry)) (now (log .entry)) booth n (now (part .entry))) .verdict ⌝ }
     ensures buffer { λ r. ⌜ now (part .exit) ≡ (page.askSolo (now (table .entry)) (now (log .entry)) booth n (now (part .entry))) .buffer ⌝ }
 {
-    let read = table::read_table(table);
-    let refusal = read.refusal;
+    let files = files::read_files(table, log);
+    let verdict = files.verdict;
+    let refusal = verdict.refusal;
     if refusal.number != 0 {
-        return Verdict {
-            refused: Refused::TheTable,
-            refusal,
-        };
+        return verdict;
     }
-    let held = read.table;
-    let logged = arrivals::read_log(held, log);
-    let log_refusal = logged.refusal;
-    if log_refusal.number != 0 {
-        return Verdict {
-            refused: Refused::TheLog,
-            refusal: log_refusal,
-        };
-    }
-    if let Fault::Found(call_refusal) = call_fault(held, logged.horizon, booth, n, part.len()) {
+    let held = files.table;
+    if let Fault::Found(call_refusal) = call_fault(held, files.horizon, booth, n, part.len()) {
         return Verdict {
             refused: Refused::TheCall,
             refusal: call_refusal,
@@ -183,12 +172,5 @@ pub fn solo_part(table: &[u8], log: &[u8], booth: usize, n: usize, part: &mut [u
     let lines = held.lines;
     let line = lines[booth];
     write_part(log, booth, line, OwnTick(n as u32), part);
-    let refusal = Refusal {
-        number: 0,
-        place: 0,
-    };
-    Verdict {
-        refused: Refused::Nothing,
-        refusal,
-    }
+    verdict
 }

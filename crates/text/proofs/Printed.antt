@@ -16,7 +16,6 @@ use Rattle.rules.specs.RowBack.{rowBack}
 use Rattle.rules.specs.Values.{padded}
 use Rattle.rules.specs.Desk as page
 use Rattle.rules.proofs.Held.{zeros}
-use Rattle.arrivals.proofs.Entries.{accepted}
 use Rattle.session.specs.declared.SessionAnswer.{SessionAnswer}
 use Rattle.session.specs.Answer.{answered}
 use Rattle.printing.specs.Put.{Put}

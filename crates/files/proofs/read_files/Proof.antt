@@ -2,7 +2,7 @@
 use Rattle.rules.specs.Verdicts.{refusedAs}
 use Rattle.rules.proofs.TwoFiles.{table-refused, log-refused}
 use Rattle.table.proofs.Numbers.{TableTaken, answer-taken, answer-refused}
-use Rattle.arrivals.proofs.Numbers.{number-zero, number-not-zero}
+use Rattle.arrivals.proofs.LogNumbers.{number-zero, number-not-zero}
 use Rattle.files.proofs.InTurn.{refused-so, lines-taken, taken-so}
 use borrow.Author.Needs.{needs}
 use Rattle.files.proofs.read_files.Statement.{statement}
@@ -35,8 +35,11 @@ returns-2 c =
     let table = lines-taken _ (c .before .before .before .before .before .before .before .before .before .before .before .before .args .log .now) _ (table-taken (c .before .before .before .before .before .before)) (c .before .before .before .before .before .before .before .before .before .read-table .ensures .1) in
     refused-so _ _ _ _ (c .refused-file2 .ensures) (log-refused _ _ _ _ table (number-not-zero _ _ _ (c .before .before .before .before .read-log .ensures) (c .before .if2 .taken))) (c .before .if2 .taken)
 
+accepted-requires : tie.Need-accepted-requires
+accepted-requires c κs = search needs
+
 returns-3 : tie.Need-returns-3
-returns-3 c = taken-so _ _ _ (table-taken (c .before .before .before .before .before)) (c .before .before .before .before .before .before .before .before .read-table .ensures .1) _ (number-zero _ _ _ (c .before .before .before .read-log .ensures) (c .if2 .left))
+returns-3 c = taken-so _ _ _ (table-taken (c .before .before .before .before .before .before)) (c .before .before .before .before .before .before .before .before .before .read-table .ensures .1) _ (number-zero _ _ _ (c .before .before .before .before .read-log .ensures) (c .before .if2 .left)) _ (c .accepted .ensures)
 
 pub read-files-spec : {M : Type 1} → statement M
 read-files-spec =
@@ -48,4 +51,5 @@ read-files-spec =
     read-log-requires
     refused-file-requires-2
     returns-2
+    accepted-requires
     returns-3)

@@ -1,15 +1,12 @@
 -- `session::nothing_done` meets its contract. Assumes nothing.
 use mathlib.Core.Path.{refl}
-use Rattle.rules.specs.Verdicts.{refusedAs}
 use Rattle.rules.specs.Values.{padded}
 use Rattle.session.specs.Answer.{nothingAnswered}
 use Rattle.session.proofs.nothing_done.Statement.{statement}
 use Rattle.session.proofs.nothing_done.Tie as tie
-use Rattle.session.proofs.nothing_done.Reads as reads
-use Rattle.session.proofs.nothing_done.Lts as lts
 
 returns : tie.Need-returns
-unfolding nothingAnswered refusedAs padded
+unfolding nothingAnswered padded
 returns c = refl
 
 pub nothing-done-spec : {M : Type 1} → statement M
