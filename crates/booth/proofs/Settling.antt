@@ -20,7 +20,7 @@ use Rattle.laws.proofs.QuickSettle.{rest, rests, takesFirst, settleThrough, qui
 use Rattle.laws.specs.Courses.{forward, addFirst, afterFirst, InOrder}
 use Rattle.laws.proofs.PageSettle.{settle-quick}
 use Rattle.arrivals.specs.Places.{waitingAt, WholeLog}
-use Rattle.arrivals.proofs.Places.{waiting-end, waiting-sorted}
+use Rattle.arrivals.proofs.PlaceLaws.{waiting-end, waiting-sorted}
 use Rattle.booth.specs.declared.Booth.{Booth as HeldBooth}
 use Rattle.booth.specs.BoothHeld.{shown, takenNext, takesNext, Steady, Fit, Stays, clockAt, lengthened}
 use Rattle.booth.proofs.Demand.{eight-none, none-taken}

@@ -19,7 +19,7 @@ use Rattle.laws.specs.Courses.{InOrder}
 use Rattle.laws.proofs.DueLaws.{not-yet-due}
 use Rattle.laws.proofs.Asleep.{asleep-silent, asleep-busy}
 use Rattle.arrivals.specs.Places.{WholeLog}
-use Rattle.arrivals.proofs.Places.{waiting-end}
+use Rattle.arrivals.proofs.PlaceLaws.{waiting-end}
 use Rattle.booth.specs.declared.Booth.{Booth as HeldBooth}
 use Rattle.booth.specs.declared.Chosen.{Chosen}
 use Rattle.booth.specs.declared.Chosen.the-variants.{Task, Nothing}

@@ -4,7 +4,7 @@ use Prim.Native.Nat.{ℕ, _+_, _-_, _≤_, _<_}
 use native.Mathlib.Omega.{arith}
 use lib.ListN.{length, getD, set}
 use Rattle.rules.specs.InRange.{Sound}
-use Rattle.arrivals.proofs.Places.{whole-entry}
+use Rattle.arrivals.proofs.PlaceLaws.{whole-entry}
 use Rattle.booth.specs.declared.Booth.{Booth}
 use Rattle.booth.specs.BoothHeld.{firstOf, shown, Looked, lookingAt, demanding, clockAt}
 use Rattle.booth.proofs.Taking.{entryOf, added, own-task, shown-taken, fit-taken}
