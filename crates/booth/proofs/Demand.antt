@@ -13,7 +13,7 @@ use lib.Seq.{getD-set-same, getD-set-other, getD-take, take-set-lt}
 use borrow.Author.Tests.{eq-eqb, ne-eqb}
 use Rattle.rules.specs.Moves.{noDemand, firstTask, addDemand, loseOne}
 use Rattle.laws.proofs.Tasks.{no-demand-zero}
-use Rattle.booth.specs.Shown.{firstOf}
+use Rattle.booth.specs.BoothHeld.{firstOf}
 
 -- task k is the first with demand
 pub record First (ds : List ℕ) (k : ℕ) : Type 0 where

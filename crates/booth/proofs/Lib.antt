@@ -1,7 +1,7 @@
 pub mod Demand
-pub mod Waiting
-pub mod Rows
+pub mod RowWritten
 pub mod Taking
 pub mod Settling
 pub mod Working
-pub mod Opening
+pub mod Asking
+pub mod FreshBooth

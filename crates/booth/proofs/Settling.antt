@@ -9,37 +9,36 @@ use lib.Dec.{leb, eqb}
 use lib.ListN.{length, take, drop, replicate, length-replicate}
 use borrow.Author.Tests.{leb-true, leb-false, eq-eqb, ne-eqb}
 use Rattle.rules.specs.declared.Promise.{Promise}
-use Rattle.rules.specs.declared.Line.{Line as HeldLine}
-use Rattle.rules.specs.ArrivalLog.{Entry, entryAt}
+use Rattle.rules.specs.BoothTable.{Line}
+use Rattle.rules.specs.ArrivalLog.{Entry}
 use Rattle.rules.specs.Due.{due, releasePoint}
 use Rattle.rules.specs.Moves.{Booth, noDemand, settle}
-use Rattle.rules.specs.Values.{lineHeld}
-use Rattle.table.specs.Fit.{Sounds}
+use Rattle.rules.specs.InRange.{Sound}
 use Rattle.rules.specs.InRange.{Sound}
 use Rattle.laws.proofs.DueLaws.{due-mono, due-at-most}
-use Rattle.laws.proofs.QuickSettle.{forward, addFirst, afterFirst, rest, rests, takesFirst, settleThrough, quickSettle, InOrder}
+use Rattle.laws.proofs.QuickSettle.{rest, rests, takesFirst, settleThrough, quickSettle}
+use Rattle.laws.specs.Courses.{forward, addFirst, afterFirst, InOrder}
 use Rattle.laws.proofs.PageSettle.{settle-quick}
+use Rattle.arrivals.specs.Places.{waitingAt, WholeLog}
+use Rattle.arrivals.proofs.Places.{waiting-end, waiting-sorted}
 use Rattle.booth.specs.declared.Booth.{Booth as HeldBooth}
-use Rattle.booth.specs.Shown.{waitingAt, shown, takenNext, takesNext, firstOf, never, Log, Steady, Fit, clockAt, lengthened}
+use Rattle.booth.specs.BoothHeld.{shown, takenNext, takesNext, Steady, Fit, Stays, clockAt, lengthened}
 use Rattle.booth.proofs.Demand.{eight-none, none-taken}
-use Rattle.booth.proofs.Waiting.{waiting-end, waiting-sorted}
-use Rattle.booth.proofs.Rows.{written-behind, agree-later}
+use Rattle.booth.proofs.RowWritten.{written-behind, agree-later}
 use Rattle.booth.proofs.Taking.{entryOf, taken-next, first-waits, shown-moved, fit-moved}
 
-pub sound-promise : (p : Promise) → Sounds p → Sound p
-sound-promise p s = record { period = s .period; allowance = s .allowance; within = s .within }
-
 -- the held first task says whether demand is left
-pub held-none : (bs : List ℕ) (h : HeldBooth) (row : List ℕ) → Steady h → eqb (h .first) 8 ≡ noDemand ((shown bs h row) .left)
+pub held-none : (l : Line) (bs : List ℕ) (h : HeldBooth) (row : List ℕ) → Steady h → eqb (h .first) 8 ≡ noDemand ((shown l bs h row) .left)
 unfolding shown
-held-none bs h row s =
-    ap (λ k. eqb k 8) (s .first) ∙ eight-none (h .demand) (omega (arith, s .eight)) ∙ sym (none-taken (h .line .tasks) (h .demand) (s .rest))
+held-none l bs h row s =
+    ap (λ k. eqb k 8) (s .first) ∙ eight-none (h .demand) (omega (arith, s .eight)) ∙ sym (none-taken (h .tasks) (h .demand) (s .rest))
 
 -- a booth in the hand of the code is in order, as the laws on settling ask
-pub shown-in-order : (bs : List ℕ) (h : HeldBooth) (row : List ℕ) (t : ℕ) → Log bs → Fit bs h → h .clock .0 ≤ due (h .line .promise) t → InOrder t (shown bs h row)
-unfolding shown lineHeld
-shown-in-order bs h row t log fit cap =
-    record { sound = sound-promise (h .line .promise) (fit .steady .sound); cap = cap; sorted = waiting-sorted bs (h .number) (h .at) log (fit .waits .place) }
+pub shown-in-order : (l : Line) (bs : List ℕ) (h : HeldBooth) (row : List ℕ) (t : ℕ) → l .promise ≡ h .promise → WholeLog bs → Fit bs h → h .clock .0 ≤ due (h .promise) t
+    → InOrder t (shown l bs h row)
+unfolding shown
+shown-in-order l bs h row t q log fit cap =
+    record { sound = subst Sound (sym q) (fit .steady .sound); cap = subst (λ p. h .clock .0 ≤ due p t) (sym q) cap; sorted = waiting-sorted bs (h .number) (h .at) log (fit .waits .place) }
 
 -- ---- quick settling takes the first entry, or rests
 
@@ -66,13 +65,14 @@ both-first false b q = q
 
 module _ (bs : List ℕ) (h : HeldBooth) (row : List ℕ) (t : ℕ) (fit : Fit bs h) where
   -- the code's test is the rule's
-  takes-alike : h .at < length bs → takesFirst t (entryOf bs h) (shown bs h row) ≡ takesNext t h
-  unfolding takesFirst takesNext shown releasePoint lineHeld
-  takes-alike more =
+  takes-alike : (l : Line) → l .promise ≡ h .promise → h .at < length bs → takesFirst t (entryOf bs h) (shown l bs h row) ≡ takesNext t h
+  unfolding takesFirst takesNext shown releasePoint
+  takes-alike l q more =
       let n = fit .waits .next more in
-      ap (λ x. leb ((entryOf bs h) .tick) t && x)
-      (swap-or (leb (due (h .line .promise) ((entryOf bs h) .tick)) (h .clock .0)) (noDemand (take (h .line .tasks) (h .demand)))
-      ∙ ap (λ x. x || leb (due (h .line .promise) ((entryOf bs h) .tick)) (h .clock .0)) (sym (held-none bs h row (fit .steady)))
+      ap (λ p. leb ((entryOf bs h) .tick) t && (leb (due p ((entryOf bs h) .tick)) (h .clock .0) || noDemand (take (h .tasks) (h .demand)))) q
+      ∙ ap (λ x. leb ((entryOf bs h) .tick) t && x)
+      (swap-or (leb (due (h .promise) ((entryOf bs h) .tick)) (h .clock .0)) (noDemand (take (h .tasks) (h .demand)))
+      ∙ ap (λ x. x || leb (due (h .promise) ((entryOf bs h) .tick)) (h .clock .0)) (sym (held-none l bs h row (fit .steady)))
       ∙ ap (λ x. eqb (h .first) 8 || leb x (h .clock .0)) (sym (n .point)))
       ∙ ap (λ x. leb x t && (eqb (h .first) 8 || leb (h .point .0) (h .clock .0))) (sym (n .tick))
 
@@ -89,48 +89,47 @@ module _ (bs : List ℕ) (h : HeldBooth) (row : List ℕ) (t : ℕ) (fit : Fit b
       go (no k) = omega arith
 
   -- and its point is due by then
-  pub point-due : h .at < length bs → takesNext t h ≡ true → h .point .0 ≤ due (h .line .promise) t
+  pub point-due : h .at < length bs → takesNext t h ≡ true → h .point .0 ≤ due (h .promise) t
   point-due more q =
       let n = fit .waits .next more in
-      omega (arith, n .point, due-mono (h .line .promise) (sound-promise (h .line .promise) (fit .steady .sound)) ((entryOf bs h) .tick) t (omega (arith, has-come q, n .tick)))
+      omega (arith, n .point, due-mono (h .promise) (fit .steady .sound) ((entryOf bs h) .tick) t (omega (arith, has-come q, n .tick)))
 
-  quick-taken : h .at < length bs → takesNext t h ≡ true → quickSettle t (takenNext (shown bs h row)) ≡ quickSettle t (shown bs h row)
+  quick-taken : (l : Line) → l .promise ≡ h .promise → h .at < length bs → takesNext t h ≡ true → quickSettle t (takenNext (shown l bs h row)) ≡ quickSettle t (shown l bs h row)
   unfolding shown
-  quick-taken more q =
+  quick-taken l p more q =
       let es = waitingAt bs (h .number) (h .at + 9) in
-      ap (quickSettle t) (taken-next (shown bs h row) (entryOf bs h) es (first-waits bs h fit more))
-      ∙ quick-takes t (shown bs h row) (entryOf bs h) es (first-waits bs h fit more) (takes-alike more ∙ q)
+      ap (quickSettle t) (taken-next (shown l bs h row) (entryOf bs h) es (first-waits bs h fit more))
+      ∙ quick-takes t (shown l bs h row) (entryOf bs h) es (first-waits bs h fit more) (takes-alike l p more ∙ q)
 
-  quick-left : takesNext t h ≡ false → quickSettle t (shown bs h row) ≡ rest t (shown bs h row)
+  quick-left : (l : Line) → l .promise ≡ h .promise → takesNext t h ≡ false → quickSettle t (shown l bs h row) ≡ rest t (shown l bs h row)
   unfolding shown
-  quick-left q = go (decLe (length bs) (h .at))
+  quick-left l p q = go (decLe (length bs) (h .at))
     where
-      go : Dec (length bs ≤ h .at) → quickSettle t (shown bs h row) ≡ rest t (shown bs h row)
-      go (yes k) = quick-ends t (shown bs h row) (waiting-end bs (h .number) (h .at) (fit .waits .place) k)
+      go : Dec (length bs ≤ h .at) → quickSettle t (shown l bs h row) ≡ rest t (shown l bs h row)
+      go (yes k) = quick-ends t (shown l bs h row) (waiting-end bs (h .number) (h .at) (fit .waits .place) k)
       go (no k) =
           let more : h .at < length bs = omega arith in
-          quick-stops t (shown bs h row) (entryOf bs h) (waitingAt bs (h .number) (h .at + 9)) (first-waits bs h fit more) (takes-alike more ∙ q)
+          quick-stops t (shown l bs h row) (entryOf bs h) (waitingAt bs (h .number) (h .at + 9)) (first-waits bs h fit more) (takes-alike l p more ∙ q)
 
 -- ---- the booth on its way through its waiting entries
 
 pub record Settling (bs : List ℕ) (t : ℕ) (h₀ : HeldBooth) (row₀ : List ℕ) (h : HeldBooth) (row : List ℕ) : Type 0 where
   pub fit : Fit bs h
-  pub line : h .line ≡ h₀ .line
-  pub number : h .number ≡ h₀ .number
+  pub stays : Stays h₀ h
   pub grown : h₀ .clock .0 ≤ h .clock .0
-  pub cap : h .clock .0 ≤ due (h .line .promise) t
+  pub cap : h .clock .0 ≤ due (h .promise) t
   pub behind : drop (h .clock .0) row ≡ drop (h .clock .0) row₀
   pub long : length row ≡ length row₀
-  pub same : quickSettle t (shown bs h row) ≡ quickSettle t (shown bs h₀ row₀)
+  pub same : (l : Line) → l .promise ≡ h₀ .promise → quickSettle t (shown l bs h row) ≡ quickSettle t (shown l bs h₀ row₀)
 
-pub settles-first : (bs : List ℕ) (t : ℕ) (h : HeldBooth) (row : List ℕ) → Fit bs h → h .clock .0 ≤ due (h .line .promise) t → Settling bs t h row h row
-settles-first bs t h row fit cap = record { fit = fit; line = refl; number = refl; grown = omega arith; cap = cap; behind = refl; long = refl; same = refl }
+pub settles-first : (bs : List ℕ) (t : ℕ) (h : HeldBooth) (row : List ℕ) → Fit bs h → h .clock .0 ≤ due (h .promise) t → Settling bs t h row h row
+settles-first bs t h row fit cap = record { fit = fit; stays = record { number = refl; promise = refl; tasks = refl }; grown = omega arith; cap = cap; behind = refl; long = refl; same = λ l q. refl }
 
 -- a row of t own ticks has room for all that is due at t
 pub due-fits : (bs : List ℕ) (t : ℕ) (h₀ : HeldBooth) (row₀ : List ℕ) (h : HeldBooth) (row : List ℕ) → Settling bs t h₀ row₀ h row → t ≤ length row₀
-    → (h .clock .0 ≤ length row) × (due (h .line .promise) t ≤ length row)
+    → (h .clock .0 ≤ length row) × (due (h .promise) t ≤ length row)
 due-fits bs t h₀ row₀ h row s fits =
-    let most = due-at-most (h .line .promise) (sound-promise (h .line .promise) (s .fit .steady .sound)) t in
+    let most = due-at-most (h .promise) (s .fit .steady .sound) t in
     (omega (arith, s .cap, s .long), omega (arith, s .long))
 
 module _ (bs : List ℕ) (t : ℕ) (h₀ : HeldBooth) (row₀ : List ℕ) (h : HeldBooth) (row : List ℕ) (s : Settling bs t h₀ row₀ h row) (inside : h .clock .0 ≤ length row) where
@@ -144,15 +143,16 @@ module _ (bs : List ℕ) (t : ℕ) (h₀ : HeldBooth) (row₀ : List ℕ) (h : H
       ∙ ap (λ n. drop (u + n) row) (length-replicate {A = ℕ} (v - u) 255)
       ∙ agree-later row row₀ u (u + (v - u)) (omega arith) (s .behind)
 
-  module _ (more : h .at < length bs) (takes : takesNext t h ≡ true) (r : HeldBooth) (row' : List ℕ) (fit : Fit bs r) (line : r .line ≡ h .line) (number : r .number ≡ h .number)
-      (state : shown bs r row' ≡ takenNext (shown bs h row))
+  module _ (more : h .at < length bs) (takes : takesNext t h ≡ true) (r : HeldBooth) (row' : List ℕ) (fit : Fit bs r) (stays : Stays h r)
+      (state : (l : Line) → l .promise ≡ h .promise → shown l bs r row' ≡ takenNext (shown l bs h row))
       (written : row' ≡ lengthened row (h .clock .0) (replicate (h .point .0 - h .clock .0) 255)) (long : length row' ≡ length row) where
     clock-taken : r .clock .0 ≡ h .clock .0 + (h .point .0 - h .clock .0)
-    unfolding shown addFirst forward releasePoint lineHeld
+    unfolding shown addFirst forward releasePoint
     clock-taken =
         let es = waitingAt bs (h .number) (h .at + 9) in
         let e = entryOf bs h in
-        ap (λ (b : Booth). b .u) (state ∙ taken-next (shown bs h row) e es (first-waits bs h (s .fit) more))
+        let l : Line = record { promise = h .promise; longest = [] } in
+        ap (λ (b : Booth). b .u) (state l refl ∙ taken-next (shown l bs h row) e es (first-waits bs h (s .fit) more))
         ∙ ap (λ p. h .clock .0 + (p - h .clock .0)) (sym ((s .fit .waits .next more) .point))
 
     -- a booth that has taken an entry is still on its way
@@ -160,33 +160,34 @@ module _ (bs : List ℕ) (t : ℕ) (h₀ : HeldBooth) (row₀ : List ℕ) (h : H
     settles-on =
         record {
           fit = fit;
-          line = line ∙ s .line;
-          number = number ∙ s .number;
+          stays = record { number = stays .number ∙ s .stays .number; promise = stays .promise ∙ s .stays .promise; tasks = stays .tasks ∙ s .stays .tasks };
           grown = omega (arith, clock-taken, s .grown);
-          cap = rw line (omega (arith, clock-taken, s .cap, point-due bs h row t (s .fit) more takes));
+          cap = rw (stays .promise) (omega (arith, clock-taken, s .cap, point-due bs h row t (s .fit) more takes));
           behind = ap (λ u. drop u row') clock-taken ∙ ap (drop (h .clock .0 + (h .point .0 - h .clock .0))) written ∙ behind-moved (h .point .0) ∙ ap (λ u. drop u row₀) (sym clock-taken);
           long = long ∙ s .long;
-          same = ap (quickSettle t) state ∙ quick-taken bs h row t (s .fit) more takes ∙ s .same;
+          same = λ l q. ap (quickSettle t) (state l (q ∙ sym (s .stays .promise))) ∙ quick-taken bs h row t (s .fit) l (q ∙ sym (s .stays .promise)) more takes ∙ s .same l q;
         }
 
-  module _ (log : Log bs) (fit₀ : Fit bs h₀) (cap₀ : h₀ .clock .0 ≤ due (h₀ .line .promise) t) (stops : takesNext t h ≡ false) where
-    rests-now : rest t (shown bs h row) ≡ settle t (shown bs h₀ row₀)
+  module _ (log : WholeLog bs) (fit₀ : Fit bs h₀) (cap₀ : h₀ .clock .0 ≤ due (h₀ .promise) t) (stops : takesNext t h ≡ false) (l : Line) (q : l .promise ≡ h₀ .promise) where
+    rests-now : rest t (shown l bs h row) ≡ settle t (shown l bs h₀ row₀)
     rests-now =
-        sym (quick-left bs h row t (s .fit) stops) ∙ s .same ∙ sym (settle-quick t (shown bs h₀ row₀) (shown-in-order bs h₀ row₀ t log fit₀ cap₀))
+        sym (quick-left bs h row t (s .fit) l (q ∙ sym (s .stays .promise)) stops)
+        ∙ s .same l q
+        ∙ sym (settle-quick t (shown l bs h₀ row₀) (shown-in-order l bs h₀ row₀ t q log fit₀ cap₀))
 
     -- with demand left it has settled
-    pub settled-busy : (h .first ≡ 8 → ⊥) → shown bs h row ≡ settle t (shown bs h₀ row₀)
+    pub settled-busy : (h .first ≡ 8 → ⊥) → shown l bs h row ≡ settle t (shown l bs h₀ row₀)
     settled-busy busy =
-        let some : noDemand ((shown bs h row) .left) ≡ false = sym (held-none bs h row (s .fit .steady)) ∙ ne-eqb (h .first) 8 busy in
-        sym (rests t (shown bs h row) (λ x. x ≡ shown bs h row) (λ q. absurd (true≢false (sym q ∙ some))) (λ q. refl)) ∙ rests-now
+        let some : noDemand ((shown l bs h row) .left) ≡ false = sym (held-none l bs h row (s .fit .steady)) ∙ ne-eqb (h .first) 8 busy in
+        sym (rests t (shown l bs h row) (λ x. x ≡ shown l bs h row) (λ z. absurd (true≢false (sym z ∙ some))) (λ z. refl)) ∙ rests-now
 
     -- with none, once its clock has moved on to due(t)
-    pub settled-free : h .first ≡ 8 → (v : ℕ) → v ≡ due (h .line .promise) t
-        → shown bs (clockAt h (h .clock .0 + (v - h .clock .0))) (lengthened row (h .clock .0) (replicate (v - h .clock .0) 255)) ≡ settle t (shown bs h₀ row₀)
-    unfolding shown lineHeld
-    settled-free free v q =
-        let none : noDemand ((shown bs h row) .left) ≡ true = sym (held-none bs h row (s .fit .steady)) ∙ eq-eqb (h .first) 8 free in
-        shown-moved bs h row v inside
-        ∙ ap (λ x. forward x (shown bs h row)) q
-        ∙ sym (rests t (shown bs h row) (λ x. x ≡ forward (due (h .line .promise) t) (shown bs h row)) (λ z. refl) (λ z. absurd (true≢false (sym none ∙ z))))
+    pub settled-free : h .first ≡ 8 → (v : ℕ) → v ≡ due (h .promise) t
+        → shown l bs (clockAt h (h .clock .0 + (v - h .clock .0))) (lengthened row (h .clock .0) (replicate (v - h .clock .0) 255)) ≡ settle t (shown l bs h₀ row₀)
+    unfolding shown
+    settled-free free v is =
+        let none : noDemand ((shown l bs h row) .left) ≡ true = sym (held-none l bs h row (s .fit .steady)) ∙ eq-eqb (h .first) 8 free in
+        shown-moved l bs h row v inside
+        ∙ ap (λ x. forward x (shown l bs h row)) (is ∙ ap (λ p. due p t) (s .stays .promise ∙ sym q))
+        ∙ sym (rests t (shown l bs h row) (λ x. x ≡ forward (due (l .promise) t) (shown l bs h row)) (λ z. refl) (λ z. absurd (true≢false (sym none ∙ z))))
         ∙ rests-now

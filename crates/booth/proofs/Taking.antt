@@ -9,24 +9,26 @@ use native.Mathlib.Omega.{arith}
 use lib.Dec.{leb, eqb}
 use lib.ListN.{length, getD, take, drop, set, replicate, length-set, length-replicate}
 use lib.Seq.{getD-set-same, getD-set-other}
+use Rattle.rules.specs.BoothTable.{Line}
 use Rattle.rules.specs.ArrivalLog.{Entry, entryAt}
 use Rattle.rules.specs.Due.{due, releasePoint}
 use Rattle.rules.specs.Moves.{Booth, nobody, noDemand, addDemand}
-use Rattle.rules.specs.Values.{lineHeld}
-use Rattle.laws.proofs.QuickSettle.{forward, addFirst, afterFirst, takesFirst, settleThrough, quickSettle}
+use Rattle.laws.proofs.QuickSettle.{takesFirst, settleThrough, quickSettle}
+use Rattle.laws.specs.Courses.{forward, addFirst, afterFirst}
+use Rattle.arrivals.specs.Places.{waitingAt}
+use Rattle.arrivals.proofs.Places.{whole-entry, waiting-own}
 use Rattle.booth.specs.declared.Booth.{Booth as HeldBooth}
-use Rattle.booth.specs.Shown.{waitingAt, shown, takenNext, takesNext, firstOf, never, Log, Place, Next, Waits, Steady, Fit, Looked, lookingAt, demanding, clockAt, lengthened}
-use Rattle.booth.proofs.Demand.{eight-none, none-taken, add-taken}
-use Rattle.booth.proofs.Waiting.{whole-entry, waiting-end, waiting-own}
-use Rattle.booth.proofs.Rows.{written-front, written-behind}
+use Rattle.booth.specs.BoothHeld.{shown, takenNext, firstOf, Next, Waits, Fit, Looked, lookingAt, demanding, clockAt, lengthened}
+use Rattle.booth.proofs.Demand.{add-taken}
+use Rattle.booth.proofs.RowWritten.{written-front}
 
 -- ---- the clock moves
 
 -- the clock moves on to v, and the own ticks passed over are written
-pub shown-moved : (bs : List ℕ) (h : HeldBooth) (row : List ℕ) (v : ℕ) → h .clock .0 ≤ length row
-    → shown bs (clockAt h (h .clock .0 + (v - h .clock .0))) (lengthened row (h .clock .0) (replicate (v - h .clock .0) 255)) ≡ forward v (shown bs h row)
+pub shown-moved : (l : Line) (bs : List ℕ) (h : HeldBooth) (row : List ℕ) (v : ℕ) → h .clock .0 ≤ length row
+    → shown l bs (clockAt h (h .clock .0 + (v - h .clock .0))) (lengthened row (h .clock .0) (replicate (v - h .clock .0) 255)) ≡ forward v (shown l bs h row)
 unfolding shown clockAt forward
-shown-moved bs h row v inside =
+shown-moved l bs h row v inside =
     let u = h .clock .0 in
     let ticks : List ℕ = replicate (v - u) 255 in
     let front : take (u + (v - u)) (lengthened row u ticks) ≡ take u row ++ ticks =
@@ -37,7 +39,7 @@ pub fit-moved : (bs : List ℕ) (h : HeldBooth) (u : ℕ) → Fit bs h → Fit b
 unfolding clockAt
 fit-moved bs h u f =
     record {
-      steady = record { sound = f .steady .sound; tasks = f .steady .tasks; eight = f .steady .eight; rest = f .steady .rest; first = f .steady .first };
+      steady = record { sound = f .steady .sound; short = f .steady .short; tasks = f .steady .tasks; eight = f .steady .eight; rest = f .steady .rest; first = f .steady .first };
       waits = record {
         place = f .waits .place;
         none = f .waits .none;
@@ -67,7 +69,7 @@ module _ (bs : List ℕ) (h : HeldBooth) (fit : Fit bs h) (more : h .at < length
   next = fit .waits .next more
 
   -- its task is one of the booth's
-  pub own-task : (entryOf bs h) .task < h .line .tasks
+  pub own-task : (entryOf bs h) .task < h .tasks
   own-task = fit .own (h .at) (fit .waits .place) more (next .booth)
 
   pub first-waits : waitingAt bs (h .number) (h .at) ≡ entryOf bs h ∷ waitingAt bs (h .number) (h .at + 9)
@@ -78,22 +80,22 @@ module _ (bs : List ℕ) (h : HeldBooth) (fit : Fit bs h) (more : h .at < length
   room-for small k = omega (arith, fit .room k, (whole-entry bs (h .at) (fit .waits .place) more) .0)
 
   module _ (row : List ℕ) (inside : h .clock .0 ≤ length row) (r : HeldBooth) (looked : Looked bs (added bs h) (h .at + 9) r) where
-    pub shown-taken : shown bs r (lengthened row (h .clock .0) (replicate (h .point .0 - h .clock .0) 255)) ≡ takenNext (shown bs h row)
-    unfolding shown addFirst lookingAt demanding clockAt releasePoint lineHeld
-    shown-taken =
+    pub shown-taken : (l : Line) → l .promise ≡ h .promise → shown l bs r (lengthened row (h .clock .0) (replicate (h .point .0 - h .clock .0) 255)) ≡ takenNext (shown l bs h row)
+    unfolding shown addFirst lookingAt demanding clockAt releasePoint
+    shown-taken l q =
         let e = entryOf bs h in
         let u = h .clock .0 + (h .point .0 - h .clock .0) in
         let row' = lengthened row (h .clock .0) (replicate (h .point .0 - h .clock .0) 255) in
         let es = waitingAt bs (h .number) (h .at + 9) in
-        let left : addDemand (e .task) (e .demand) (take (h .line .tasks) (h .demand))
-        ≡ take (h .line .tasks) (set (h .demand) (e .task) (getD (h .demand) (e .task) 0 + e .demand)) =
-        add-taken (h .line .tasks) (e .task) (e .demand) (h .demand) own-task (omega (arith, own-task, fit .steady .eight, fit .steady .tasks)) in
-        let seen : shown bs (lookingAt (added bs h) (r .at) (r .tick .0) (r .point .0)) row' ≡ addFirst e es (shown bs (clockAt h u) row') = rw (looked .same, left) in
-        ap (λ x. shown bs x row') (looked .is)
+        let left : addDemand (e .task) (e .demand) (take (h .tasks) (h .demand))
+        ≡ take (h .tasks) (set (h .demand) (e .task) (getD (h .demand) (e .task) 0 + e .demand)) =
+        add-taken (h .tasks) (e .task) (e .demand) (h .demand) own-task (omega (arith, own-task, fit .steady .eight, fit .steady .tasks)) in
+        let seen : shown l bs (lookingAt (added bs h) (r .at) (r .tick .0) (r .point .0)) row' ≡ addFirst e es (shown l bs (clockAt h u) row') = rw (looked .same, left) in
+        ap (λ x. shown l bs x row') (looked .is)
         ∙ seen
-        ∙ ap (addFirst e es) (shown-moved bs h row (h .point .0) inside)
-        ∙ ap (λ p. addFirst e es (forward p (shown bs h row))) (next .point)
-        ∙ sym (taken-next (shown bs h row) e es first-waits)
+        ∙ ap (addFirst e es) (shown-moved l bs h row (h .point .0) inside)
+        ∙ ap (λ p. addFirst e es (forward p (shown l bs h row))) (next .point ∙ ap (λ p. due p (e .tick)) (sym q))
+        ∙ sym (taken-next (shown l bs h row) e es first-waits)
 
     pub fit-taken : (entryOf bs h) .demand ≤ 65535 → Fit bs r
     unfolding lookingAt demanding clockAt
@@ -119,6 +121,7 @@ module _ (bs : List ℕ) (h : HeldBooth) (fit : Fit bs h) (more : h .at < length
             record {
               steady = record {
                 sound = fit .steady .sound;
+                short = fit .steady .short;
                 tasks = fit .steady .tasks;
                 eight = length-set (h .demand) (e .task) x ∙ fit .steady .eight;
                 rest = λ k far. other k (λ q. omega (arith, q, own-task)) ∙ fit .steady .rest k far;

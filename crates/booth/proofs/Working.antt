@@ -11,19 +11,22 @@ use lib.Dec.{ltb, eqb}
 use lib.ListN.{length, getD, take, drop, set, length-set}
 use lib.Seq.{getD-set-same, getD-set-other, take-suc-set, drop-set-lt}
 use borrow.Author.Tests.{eq-eqb, ne-eqb, lt-ltb, le-ltb, eqb-true, eqb-false}
+use Rattle.rules.specs.BoothTable.{Line}
 use Rattle.rules.specs.Due.{due}
 use Rattle.rules.specs.Moves.{Booth, noDemand, firstTask, loseOne, mayWork, work, settle}
-use Rattle.rules.specs.Values.{lineHeld}
-use Rattle.laws.proofs.QuickSettle.{InOrder, Late}
-use Rattle.laws.proofs.Asleep.{asleep-silent, asleep-busy, opens}
+use Rattle.laws.proofs.QuickSettle.{Late}
+use Rattle.laws.specs.Courses.{InOrder}
+use Rattle.laws.proofs.DueLaws.{not-yet-due}
+use Rattle.laws.proofs.Asleep.{asleep-silent, asleep-busy}
+use Rattle.arrivals.specs.Places.{WholeLog}
+use Rattle.arrivals.proofs.Places.{waiting-end}
 use Rattle.booth.specs.declared.Booth.{Booth as HeldBooth}
 use Rattle.booth.specs.declared.Chosen.{Chosen}
 use Rattle.booth.specs.declared.Chosen.the-variants.{Task, Nothing}
-use Rattle.booth.specs.Shown.{firstOf, shown, settledAnswer, wakesAt, never, Log, Steady, Waits, Fit, AfterPlay}
+use Rattle.booth.specs.BoothHeld.{firstOf, shown, settledAnswer, wakesAt, Steady, Fit, Stays, AfterPlay}
 use Rattle.booth.proofs.Demand.{First, demand-or-none, first-here, first-same, first-taken, lose-taken}
-use Rattle.booth.proofs.Waiting.{waiting-end}
 use Rattle.booth.proofs.Taking.{first-waits}
-use Rattle.booth.proofs.Settling.{sound-promise, held-none, shown-in-order}
+use Rattle.booth.proofs.Settling.{held-none, shown-in-order}
 
 -- ---- the answer
 
@@ -31,32 +34,34 @@ use Rattle.booth.proofs.Settling.{sound-promise, held-none, shown-in-or
 pub held-first : (h : HeldBooth) → Steady h → (h .first ≡ 8 → ⊥) → First (h .demand) (h .first)
 held-first h s busy = ⊎-elim (λ w. absurd (busy (s .first ∙ w .1))) (λ w. subst (First (h .demand)) (sym (s .first)) (w .1)) (demand-or-none (h .demand))
 
-module _ (bs : List ℕ) (h : HeldBooth) (row : List ℕ) (s : Steady h) where
-  pub task-held : (h .first ≡ 8 → ⊥) → firstTask 0 (take (h .line .tasks) (h .demand)) ≡ h .first
+module _ (l : Line) (bs : List ℕ) (h : HeldBooth) (row : List ℕ) (s : Steady h) (q : l .promise ≡ h .promise) where
+  pub task-held : (h .first ≡ 8 → ⊥) → firstTask 0 (take (h .tasks) (h .demand)) ≡ h .first
   task-held busy =
-      (first-here (take (h .line .tasks) (h .demand)) (h .first) (first-taken (h .line .tasks) (h .demand) (s .rest) (h .first) (held-first h s busy))) .1
+      (first-here (take (h .tasks) (h .demand)) (h .first) (first-taken (h .tasks) (h .demand) (s .rest) (h .first) (held-first h s busy))) .1
 
   -- whether the booth may work, as the code tests it
-  pub may-held : (t : ℕ) → mayWork t (shown bs h row) ≡ (not (eqb (h .first) 8) && ltb (h .clock .0) (due (h .line .promise) (suc t)))
-  unfolding mayWork shown lineHeld
-  may-held t = ap (λ c. not c && ltb (h .clock .0) (due (h .line .promise) (suc t))) (sym (held-none bs h row s))
+  pub may-held : (t : ℕ) → mayWork t (shown l bs h row) ≡ (not (eqb (h .first) 8) && ltb (h .clock .0) (due (h .promise) (suc t)))
+  unfolding mayWork shown
+  may-held t =
+      ap (λ p. not (noDemand (take (h .tasks) (h .demand))) && ltb (h .clock .0) (due p (suc t))) q
+      ∙ ap (λ c. not c && ltb (h .clock .0) (due (h .promise) (suc t))) (sym (held-none l bs h row s))
 
-  pub answers-none : (t : ℕ) → h .first ≡ 8 → Nothing ≡ settledAnswer t (shown bs h row)
+  pub answers-none : (t : ℕ) → h .first ≡ 8 → Nothing ≡ settledAnswer t (shown l bs h row)
   unfolding settledAnswer
   answers-none t free =
-      let may : mayWork t (shown bs h row) ≡ false = may-held t ∙ rw (eq-eqb (h .first) 8 free) in
+      let may : mayWork t (shown l bs h row) ≡ false = may-held t ∙ rw (eq-eqb (h .first) 8 free) in
       rw (may, settledAnswer)
 
-  pub answers-late : (t : ℕ) → (h .first ≡ 8 → ⊥) → due (h .line .promise) (suc t) ≤ h .clock .0 → Nothing ≡ settledAnswer t (shown bs h row)
+  pub answers-late : (t : ℕ) → (h .first ≡ 8 → ⊥) → due (h .promise) (suc t) ≤ h .clock .0 → Nothing ≡ settledAnswer t (shown l bs h row)
   unfolding settledAnswer
   answers-late t busy late =
-      let may : mayWork t (shown bs h row) ≡ false = may-held t ∙ rw (ne-eqb (h .first) 8 busy, le-ltb (h .clock .0) (due (h .line .promise) (suc t)) late) in
+      let may : mayWork t (shown l bs h row) ≡ false = may-held t ∙ rw (ne-eqb (h .first) 8 busy, le-ltb (h .clock .0) (due (h .promise) (suc t)) late) in
       rw (may, settledAnswer)
 
-  pub answers-task : (t : ℕ) → (h .first ≡ 8 → ⊥) → h .clock .0 < due (h .line .promise) (suc t) → Task (h .first) ≡ settledAnswer t (shown bs h row)
+  pub answers-task : (t : ℕ) → (h .first ≡ 8 → ⊥) → h .clock .0 < due (h .promise) (suc t) → Task (h .first) ≡ settledAnswer t (shown l bs h row)
   unfolding settledAnswer shown
   answers-task t busy early =
-      let may : mayWork t (shown bs h row) ≡ true = may-held t ∙ rw (ne-eqb (h .first) 8 busy, lt-ltb (h .clock .0) (due (h .line .promise) (suc t)) early) in
+      let may : mayWork t (shown l bs h row) ≡ true = may-held t ∙ rw (ne-eqb (h .first) 8 busy, lt-ltb (h .clock .0) (due (h .promise) (suc t)) early) in
       rw (may, settledAnswer) (ap Task (sym (task-held busy)))
 
 -- ---- the work
@@ -66,21 +71,22 @@ unfoldable pub worked : HeldBooth → ℕ → ℕ → HeldBooth
 worked h k first =
     record {
       number = h .number;
-      line = h .line;
-      clock = record { 0 = h .clock .0 + 1 };
+      tasks = h .tasks;
+      demand = set (h .demand) k (getD (h .demand) k 0 - 1);
+      first = first;
       at = h .at;
+      promise = h .promise;
+      clock = record { 0 = h .clock .0 + 1 };
       tick = h .tick;
       point = h .point;
-      first = first;
-      demand = set (h .demand) k (getD (h .demand) k 0 - 1);
     }
 
 module _ (h : HeldBooth) (s : Steady h) (k : ℕ) (f : First (h .demand) k) where
-  pub shown-worked : (bs row : List ℕ) (first : ℕ) → h .clock .0 < length row → shown bs (worked h k first) (set row (h .clock .0) k) ≡ work (shown bs h row)
+  pub shown-worked : (l : Line) (bs row : List ℕ) (first : ℕ) → h .clock .0 < length row → shown l bs (worked h k first) (set row (h .clock .0) k) ≡ work (shown l bs h row)
   unfolding shown worked work
-  shown-worked bs row first inside =
+  shown-worked l bs row first inside =
       let u = h .clock .0 in
-      let tasks = h .line .tasks in
+      let tasks = h .tasks in
       let left = lose-taken tasks (h .demand) (s .rest) k f in
       let is : firstTask 0 (take tasks (h .demand)) ≡ k = (first-here (take tasks (h .demand)) k (first-taken tasks (h .demand) (s .rest) k f)) .1 in
       rw (add-one u, take-suc-set row u k inside, is, left)
@@ -96,12 +102,13 @@ module _ (h : HeldBooth) (s : Steady h) (k : ℕ) (f : First (h .demand) k) wher
   pub after-play : (first : ℕ) → first ≡ firstOf (set (h .demand) k (getD (h .demand) k 0 - 1)) → AfterPlay h (worked h k first)
   unfolding worked
   after-play first q =
-      record { steady = steady; fit = fit; line = refl; number = refl; at = refl; tick = refl; point = refl; clock = refl; falls = demand-falls }
+      record { steady = steady; fit = fit; stays = record { number = refl; promise = refl; tasks = refl }; at = refl; tick = refl; point = refl; clock = refl; falls = demand-falls }
     where
       steady : Steady (worked h k first)
       steady =
           record {
             sound = s .sound;
+            short = s .short;
             tasks = s .tasks;
             eight = length-set (h .demand) k (getD (h .demand) k 0 - 1) ∙ s .eight;
             rest = λ j far. omega (arith, demand-falls j, s .rest j far);
@@ -128,25 +135,25 @@ module _ (h : HeldBooth) (s : Steady h) (k : ℕ) (f : First (h .demand) k) wher
 -- ---- asleep
 
 -- before the tick of `wakesAt` a booth may not work, so it need not be asked
-pub asleep-until : (bs : List ℕ) (h : HeldBooth) (row : List ℕ) (t : ℕ) → Log bs → Fit bs h → h .clock .0 ≤ due (h .line .promise) t → t < wakesAt h
-    → mayWork t (settle t (shown bs h row)) ≡ false
-unfolding wakesAt shown lineHeld
-asleep-until bs h row t log fit cap early = go (eqb (h .first) 8) refl
+pub asleep-until : (l : Line) (bs : List ℕ) (h : HeldBooth) (row : List ℕ) (t : ℕ) → l .promise ≡ h .promise → WholeLog bs → Fit bs h → h .clock .0 ≤ due (h .promise) t → t < wakesAt h
+    → mayWork t (settle t (shown l bs h row)) ≡ false
+unfolding wakesAt shown
+asleep-until l bs h row t p log fit cap early = go (eqb (h .first) 8) refl
   where
-    order : InOrder t (shown bs h row)
-    order = shown-in-order bs h row t log fit cap
+    order : InOrder t (shown l bs h row)
+    order = shown-in-order l bs h row t p log fit cap
 
-    late : t < h .tick .0 → Late t ((shown bs h row) .waiting)
+    late : t < h .tick .0 → Late t ((shown l bs h row) .waiting)
     late before = ends (decLe (length bs) (h .at))
       where
-        ends : Dec (length bs ≤ h .at) → Late t ((shown bs h row) .waiting)
+        ends : Dec (length bs ≤ h .at) → Late t ((shown l bs h row) .waiting)
         ends (yes k) = rw (waiting-end bs (h .number) (h .at) (fit .waits .place) k) tt
         ends (no k) =
             let more : h .at < length bs = omega arith in
             rw (first-waits bs h fit more) (omega (arith, (fit .waits .next more) .tick))
 
-    go : (c : Bool) → eqb (h .first) 8 ≡ c → mayWork t (settle t (shown bs h row)) ≡ false
-    go true q = asleep-silent t (shown bs h row) order (sym (held-none bs h row (fit .steady)) ∙ q) (late (rw (q, wakesAt) at early))
+    go : (c : Bool) → eqb (h .first) 8 ≡ c → mayWork t (settle t (shown l bs h row)) ≡ false
+    go true q = asleep-silent t (shown l bs h row) order (sym (held-none l bs h row (fit .steady)) ∙ q) (late (rw (q, wakesAt) at early))
     go false q =
-        asleep-busy t (shown bs h row) order (sym (held-none bs h row (fit .steady)) ∙ q)
-        (opens (h .line .promise) (sound-promise (h .line .promise) (fit .steady .sound)) (h .clock .0) t (rw (q, wakesAt) at early))
+        asleep-busy t (shown l bs h row) order (sym (held-none l bs h row (fit .steady)) ∙ q)
+        (subst (λ x. due x (suc t) ≤ h .clock .0) (sym p) (not-yet-due (h .promise) (fit .steady .sound) (h .clock .0) t (rw (q, wakesAt) at early)))

@@ -1,15 +1,18 @@
 // One booth and its moves at a wall tick: settle, then play. Each move takes the booth and hands it back changed.
 ghost use mathlib.Core.Path.{_≡_};
 ghost use mathlib.Core.List.{List};
-ghost use Prim.Native.Nat.{ℕ, _+_, _*_, _-_, _%_, _/_, _≤_, _<_};
-ghost use lib.ListN.{length, getD, take, drop, replicate, set};
+ghost use Prim.Native.Nat.{ℕ, _+_, _-_, _≤_, _<_};
+ghost use lib.ListN.{length, getD, drop, replicate, set};
 ghost use Rattle.rules.specs.ArrivalLog.{entryAt};
+ghost use Rattle.rules.specs.BoothTable.{Line as PageLine};
 ghost use Rattle.rules.specs.Due as page;
 ghost use Rattle.rules.specs.Moves as moves;
 ghost use Rattle.rules.specs.Session.{freshBooth};
 ghost use Rattle.rules.specs.Values.{lineHeld};
-ghost use Rattle.table.specs.Fit.{Sounds, FitLine};
-ghost use Rattle.booth.specs.Shown.{waitingAt, firstOf, shown, settledAnswer, takesNext, takenNext, wakesAt, Log, Place, Found, Looked, Steady, Fit, AfterSettle, AfterPlay, demanding, clockAt, lengthened};
+ghost use Rattle.rules.specs.InRange.{Sound};
+ghost use Rattle.table.specs.Fit.{FitLine};
+ghost use Rattle.arrivals.specs.Places.{waitingAt, Place, WholeLog};
+ghost use Rattle.booth.specs.BoothHeld.{absentBooth, firstOf, shown, settledAnswer, asked, takesNext, takenNext, wakesAt, Found, Looked, Steady, Fit, Stays, AfterSettle, AfterPlay, AfterAsk, demanding, clockAt, lengthened};
 use rules::ENTRY_BYTES;
 use rules::Line;
 use rules::NOBODY;
@@ -21,26 +24,34 @@ use rules::WallTick;
 // The tick of an entry that never comes.
 const NEVER: u32 = 4294967295;
 
+// What a booth is promised and how many tasks it has, with what moves. Demand lies at a multiple of 16 bytes, where a copy is quickest.
 pub struct Booth {
     // Below 8, in a whole word, so that no padding is copied with the state.
     pub number: usize,
-    pub line: Line,
+    pub tasks: usize,
+    // Unplayed demand for each task, and the first task with some; 8 where there is none.
+    pub demand: [u32; TASKS_ALLOWED],
+    pub first: usize,
+    // Where the first entry that waits lies in the log; its tick and its release point stand below.
+    pub at: usize,
+    pub promise: Promise,
     // The own clock u.
     pub clock: OwnTick,
-    // Where the first entry that waits lies in the log, its tick and its release point.
-    pub at: usize,
     pub tick: WallTick,
     pub point: OwnTick,
-    // The first task with demand; 8 where there is none.
-    pub first: usize,
-    // Unplayed demand for each task.
-    pub demand: [u32; TASKS_ALLOWED],
 }
 
 // What a settled booth answers.
 pub enum Chosen {
     Task(usize),
     Nothing,
+}
+
+// A booth that was asked at a wall tick, whether it worked, and the wall tick before which it need not be asked again.
+pub struct Asked {
+    pub booth: Booth,
+    pub wakes: WallTick,
+    pub worked: bool,
 }
 
 // Where the booth's next entry lies, from a place on; the log's end where there is none.
@@ -50,7 +61,7 @@ fn next_of(log: &[u8], number: usize, from: usize) -> usize
 {
     let mut at = from;
     while at < log.len() {
-        if base::wide(log[at + 5]) as usize == number {
+        if arrivals::entry_booth(log, at) == number {
             return at;
         }
         at += ENTRY_BYTES;
@@ -85,51 +96,51 @@ fn first_task(demand: [u32; TASKS_ALLOWED]) -> usize
 
 impl Booth {
     // Stands in an array of booths where the table has none.
-    pub fn absent() -> Self {
+    pub fn absent() -> Self
+        ensures { λ r. ⌜ r ≡ absentBooth ⌝ }
+    {
         let promise = Promise {
             period: 0,
             allowance: 0,
         };
-        let line = Line {
-            promise,
-            tasks: 0,
-            longest: [0; TASKS_ALLOWED],
-        };
         Booth {
             number: 0,
-            line,
-            clock: OwnTick(0),
+            tasks: 0,
+            demand: [0; TASKS_ALLOWED],
+            first: TASKS_ALLOWED,
             at: 0,
+            promise,
+            clock: OwnTick(0),
             tick: WallTick(NEVER),
             point: OwnTick(0),
-            first: TASKS_ALLOWED,
-            demand: [0; TASKS_ALLOWED],
         }
     }
 
     // A booth before wall tick 0: own clock 0, no demand, nothing added, an empty row.
     pub fn open(number: usize, line: Line, log: &[u8]) -> Self
-        requires { ⌜ Log (now log) × FitLine line ⌝ }
+        requires { ⌜ WholeLog (now log) × FitLine line ⌝ }
         requires { ⌜ ((at : ℕ) → Place (now log) at → at < length (now log) → (entryAt (now log) at) .booth ≡ number → (entryAt (now log) at) .task < line .tasks) ⌝ }
-        ensures fit { λ r. ⌜ Fit (now (log .entry)) r × (r .number ≡ number) × (r .line ≡ line) ⌝ }
-        ensures state { λ r. ⌜ ((row : List ℕ) → shown (now (log .entry)) r row ≡ freshBooth (lineHeld line) (waitingAt (now (log .entry)) number 9)) ⌝ }
+        ensures fit { λ r. ⌜ Fit (now (log .entry)) r × (r .number ≡ number) × (r .promise ≡ line .promise) × (r .tasks ≡ line .tasks) ⌝ }
+        ensures state { λ r. ⌜ ((row : List ℕ) → shown (lineHeld line) (now (log .entry)) r row ≡ freshBooth (lineHeld line) (waitingAt (now (log .entry)) number 9)) ⌝ }
     {
+        let promise = line.promise;
         let booth = Booth {
             number,
-            line,
-            clock: OwnTick(0),
+            tasks: line.tasks,
+            demand: [0; TASKS_ALLOWED],
+            first: TASKS_ALLOWED,
             at: 9,
+            promise,
+            clock: OwnTick(0),
             tick: WallTick(NEVER),
             point: OwnTick(0),
-            first: TASKS_ALLOWED,
-            demand: [0; TASKS_ALLOWED],
         };
         booth.look(log, 9)
     }
 
     // The booth with its first waiting entry at `from` or behind it.
     fn look(mut self, log: &[u8], from: usize) -> Self
-        requires { ⌜ Log (now log) × Place (now log) from × Sounds (self .line .promise) ⌝ }
+        requires { ⌜ WholeLog (now log) × Place (now log) from × Sound (self .promise) ⌝ }
         ensures { λ r. ⌜ Looked (now (log .entry)) self from r ⌝ }
     {
         let at = next_of(log, self.number, from);
@@ -139,10 +150,9 @@ impl Booth {
             self.tick = tick;
             return self;
         }
-        let tick = WallTick(base::number32(log, at + 1));
+        let tick = arrivals::entry_tick(log, at);
         self.tick = tick;
-        let line = self.line;
-        let promise = line.promise;
+        let promise = self.promise;
         let point = rules::due(promise, tick);
         self.point = point;
         self
@@ -191,15 +201,15 @@ impl Booth {
 
     // The clock moves on to the first waiting entry's point, and the entry is added to its task.
     fn take_next(mut self, log: &[u8], row: &mut [u8]) -> Self
-        requires { ⌜ Log (now log) × Fit (now log) self × (self .at < length (now log)) ⌝ }
+        requires { ⌜ WholeLog (now log) × Fit (now log) self × (self .at < length (now log)) ⌝ }
         requires { ⌜ (self .clock .0 ≤ length (now row)) × (self .point .0 ≤ length (now row)) ⌝ }
-        ensures fit { λ r. ⌜ Fit (now (log .entry)) r × (self .at < r .at) × (r .line ≡ self .line) × (r .number ≡ self .number) ⌝ }
-        ensures state { λ r. ⌜ shown (now (log .entry)) r (now (row .exit)) ≡ takenNext (shown (now (log .entry)) self (now (row .entry))) ⌝ }
+        ensures fit { λ r. ⌜ Fit (now (log .entry)) r × (self .at < r .at) × Stays self r ⌝ }
+        ensures state { λ r. ⌜ ((l : PageLine) → l .promise ≡ self .promise → shown l (now (log .entry)) r (now (row .exit)) ≡ takenNext (shown l (now (log .entry)) self (now (row .entry)))) ⌝ }
         ensures row { λ r. ⌜ now (row .exit) ≡ lengthened (now (row .entry)) (self .clock .0) (replicate (self .point .0 - self .clock .0) 255) ⌝ }
     {
         let at = self.at;
-        let k = base::wide(log[at + 6]) as usize;
-        let d = base::number16(log, at + 7);
+        let k = arrivals::entry_task(log, at);
+        let d = arrivals::entry_demand(log, at);
         let to = self.point;
         self = self.pass(row, to);
         self = self.add(k, d);
@@ -209,17 +219,16 @@ impl Booth {
 
     // Takes the entries that are to be added at t, then rests where no demand is left.
     fn catch_up(mut self, log: &[u8], row: &mut [u8], t: WallTick) -> Self
-        requires { ⌜ Log (now log) × Fit (now log) self × (t .0 < 1000001) × (t .0 ≤ length (now row)) × (self .clock .0 ≤ page.due (self .line .promise) (t .0)) ⌝ }
+        requires { ⌜ WholeLog (now log) × Fit (now log) self × (t .0 < 1000001) × (t .0 ≤ length (now row)) × (self .clock .0 ≤ page.due (self .promise) (t .0)) ⌝ }
         ensures fit { λ r. ⌜ AfterSettle (now (log .entry)) (t .0) self r ⌝ }
-        ensures state { λ r. ⌜ shown (now (log .entry)) r (now (row .exit)) ≡ moves.settle (t .0) (shown (now (log .entry)) self (now (row .entry))) ⌝ }
+        ensures state { λ r. ⌜ ((l : PageLine) → l .promise ≡ self .promise → shown l (now (log .entry)) r (now (row .exit)) ≡ moves.settle (t .0) (shown l (now (log .entry)) self (now (row .entry)))) ⌝ }
         ensures row { λ r. ⌜ drop (r .clock .0) (now (row .exit)) ≡ drop (r .clock .0) (now (row .entry)) ⌝ }
     {
         while self.takes(t) {
             self = self.take_next(log, row);
         }
         if self.first == TASKS_ALLOWED {
-            let line = self.line;
-            let promise = line.promise;
+            let promise = self.promise;
             let to = rules::due(promise, t);
             self = self.pass(row, to);
         }
@@ -227,10 +236,10 @@ impl Booth {
     }
 
     // Settle at t. A booth with demand and no entry to add is settled as it is; most are, so nothing of it is written anew.
-    pub fn settle(self, log: &[u8], row: &mut [u8], t: WallTick) -> Self
-        requires { ⌜ Log (now log) × Fit (now log) self × (t .0 < 1000001) × (t .0 ≤ length (now row)) × (self .clock .0 ≤ page.due (self .line .promise) (t .0)) ⌝ }
+    pub fn settle(mut self, log: &[u8], row: &mut [u8], t: WallTick) -> Self
+        requires { ⌜ WholeLog (now log) × Fit (now log) self × (t .0 < 1000001) × (t .0 ≤ length (now row)) × (self .clock .0 ≤ page.due (self .promise) (t .0)) ⌝ }
         ensures fit { λ r. ⌜ AfterSettle (now (log .entry)) (t .0) self r ⌝ }
-        ensures state { λ r. ⌜ shown (now (log .entry)) r (now (row .exit)) ≡ moves.settle (t .0) (shown (now (log .entry)) self (now (row .entry))) ⌝ }
+        ensures state { λ r. ⌜ ((l : PageLine) → l .promise ≡ self .promise → shown l (now (log .entry)) r (now (row .exit)) ≡ moves.settle (t .0) (shown l (now (log .entry)) self (now (row .entry)))) ⌝ }
         ensures row { λ r. ⌜ drop (r .clock .0) (now (row .exit)) ≡ drop (r .clock .0) (now (row .entry)) ⌝ }
     {
         if self.takes(t) {
@@ -245,14 +254,13 @@ impl Booth {
     // A settled booth answers with a task to run at t, or with nothing.
     pub fn choose(self, t: WallTick) -> Chosen
         requires { ⌜ Steady self × (t .0 < 1000001) ⌝ }
-        ensures { λ r. ⌜ ((bs row : List ℕ) → r ≡ settledAnswer (t .0) (shown bs self row)) ⌝ }
+        ensures { λ r. ⌜ ((l : PageLine) (bs row : List ℕ) → l .promise ≡ self .promise → r ≡ settledAnswer (t .0) (shown l bs self row)) ⌝ }
     {
         let first = self.first;
         if first == TASKS_ALLOWED {
             return Chosen::Nothing;
         }
-        let line = self.line;
-        let promise = line.promise;
+        let promise = self.promise;
         let next = rules::due(promise, WallTick(t.0 + 1));
         if self.clock.0 < next.0 {
             Chosen::Task(first)
@@ -265,7 +273,7 @@ impl Booth {
     pub fn play(mut self, row: &mut [u8], k: usize) -> Self
         requires { ⌜ Steady self × (k < 8) × (k ≡ self .first) × (self .clock .0 < length (now row)) × (length (now row) < 1000001) ⌝ }
         ensures fit { λ r. ⌜ AfterPlay self r ⌝ }
-        ensures state { λ r. ⌜ ((bs : List ℕ) → shown bs r (now (row .exit)) ≡ moves.work (shown bs self (now (row .entry)))) ⌝ }
+        ensures state { λ r. ⌜ ((l : PageLine) (bs : List ℕ) → shown l bs r (now (row .exit)) ≡ moves.work (shown l bs self (now (row .entry)))) ⌝ }
         ensures row { λ r. ⌜ drop (r .clock .0) (now (row .exit)) ≡ drop (r .clock .0) (now (row .entry)) ⌝ }
     {
         let u = self.clock.0;
@@ -282,17 +290,40 @@ impl Booth {
     }
 
     // The wall tick before which the settled booth cannot work.
-    pub fn wakes(self) -> usize
-        requires { ⌜ Steady self × (self .clock .0 < 1000001) ⌝ }
-        ensures { λ r. ⌜ r ≡ wakesAt self ⌝ }
+    pub fn wakes(self) -> WallTick
+        requires { ⌜ Steady self × (page.playableFrom (self .promise) (self .clock .0) < 4294967296) ⌝ }
+        ensures { λ r. ⌜ r .0 ≡ wakesAt self ⌝ }
     {
         if self.first == TASKS_ALLOWED {
-            return self.tick.0 as usize;
+            return self.tick;
         }
-        let u = self.clock.0 as usize;
-        let line = self.line;
-        let promise = line.promise;
-        let allowance = promise.allowance as usize;
-        u / allowance * promise.period as usize + u % allowance
+        let promise = self.promise;
+        rules::playable_from(promise, self.clock)
+    }
+
+    // One booth's turn at wall tick t: it settles and, if it then has a task and may work, plays.
+    pub fn ask(mut self, log: &[u8], row: &mut [u8], t: WallTick) -> Asked
+        requires { ⌜ WholeLog (now log) × Fit (now log) self × (t .0 < length (now row)) × (length (now row) < 1000001) × (self .clock .0 ≤ page.due (self .promise) (t .0)) ⌝ }
+        ensures fit { λ r. ⌜ AfterAsk (now (log .entry)) (t .0) self r ⌝ }
+        ensures state { λ r. ⌜ ((l : PageLine) → l .promise ≡ self .promise → shown l (now (log .entry)) (r .booth) (now (row .exit)) ≡ asked (t .0) (shown l (now (log .entry)) self (now (row .entry)))) ⌝ }
+        ensures worked { λ r. ⌜ ((l : PageLine) → l .promise ≡ self .promise → r .worked ≡ moves.mayWork (t .0) (moves.settle (t .0) (shown l (now (log .entry)) self (now (row .entry))))) ⌝ }
+        ensures row { λ r. ⌜ drop (r .booth .clock .0) (now (row .exit)) ≡ drop (r .booth .clock .0) (now (row .entry)) ⌝ }
+    {
+        self = self.settle(log, &mut row[..], t);
+        let Chosen::Task(k) = self.choose(t) else {
+            let wakes = self.wakes();
+            return Asked {
+                booth: self,
+                wakes,
+                worked: false,
+            };
+        };
+        self = self.play(row, k);
+        let wakes = self.wakes();
+        Asked {
+            booth: self,
+            wakes,
+            worked: true,
+        }
     }
 }

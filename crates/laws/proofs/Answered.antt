@@ -27,11 +27,12 @@ use Rattle.laws.proofs.DueLaws.{due-at-most}
 use Rattle.laws.proofs.Checks.{no-fault}
 use Rattle.laws.proofs.Readers.{all-at, Lines, LogRead, read-log}
 use Rattle.laws.proofs.Admitted.{read-table, table-lines}
-use Rattle.laws.proofs.Run.{AsRead, getD-map, length-booths}
+use Rattle.laws.proofs.Run.{getD-map, length-booths}
+use Rattle.laws.specs.Courses.{AsRead, ShortRows}
 use Rattle.laws.proofs.Clocks.{never-ahead}
 use Rattle.laws.proofs.Rows.{row-length}
 use Rattle.laws.proofs.WallRecord.{length-wall}
-use Rattle.laws.proofs.LentRows.{length-written, kept-outside, ShortRows, Outside, row-back, rows-outside, length-rows, behind-rows, between-rows}
+use Rattle.laws.proofs.LentRows.{length-written, kept-outside, Outside, row-back, rows-outside, length-rows, behind-rows, between-rows}
 
 -- ---- what the answer 0 says
 

@@ -20,16 +20,17 @@ use Rattle.rules.specs.Session.{ownEntries, freshBooth, openBooths, settledAt, 
 use Rattle.rules.proofs.Held.{zeros, at-set}
 use Rattle.rules.specs.InRange.{Sound}
 use Rattle.laws.specs.Statements.{boothAt}
-use Rattle.laws.proofs.Entries.{Sorted, own-sorted}
+use Rattle.laws.proofs.Entries.{own-sorted}
+use Rattle.laws.specs.Ordered.{Sorted}
+use Rattle.laws.specs.Courses.{forward, addFirst, InOrder, AsRead, ShortRows, nobooth, Kept, Course, Closing}
 use Rattle.laws.proofs.DueLaws.{due-zero, due-at-most}
-use Rattle.laws.proofs.QuickSettle.{forward, addFirst, quickSettle, settle-ind, rests, InOrder}
+use Rattle.laws.proofs.QuickSettle.{quickSettle, settle-ind, rests}
 use Rattle.laws.proofs.PageSettle.{settle-quick}
 use Rattle.laws.proofs.SettleAgain.{in-order-later, settled-in-order, settle-line, work-in-order, settle-again}
 use Rattle.laws.proofs.FirstWorker.{first-works, none-works}
-use Rattle.laws.proofs.Run.{AsRead, getD-map, length-open, open-at, opened, length-booths, wall-start, wall-step}
+use Rattle.laws.proofs.Run.{getD-map, length-open, open-at, opened, length-booths, wall-start, wall-step}
 use Rattle.laws.proofs.WallRecord.{length-wall}
 use Rattle.rules.proofs.Counting.{count-nil, count-last-same, count-last-other}
-use Rattle.laws.proofs.LentRows.{ShortRows}
 use Rattle.laws.proofs.RowSlices.{rows-open, row-moved, short-set, short-at}
 
 -- ---- settling lengthens a row by silence
@@ -69,9 +70,6 @@ row-worked : (b : Booth) → ((work b) .row ≡ b .row ++ (firstTask 0 (b .left)
 unfolding work
 row-worked b = (refl, refl)
 
-abbrev pub nobooth : Booth
-nobooth = freshBooth no-line []
-
 fresh-order : (l : Line) (es : List Entry) → Sound (l .promise) → Sorted es → InOrder 0 (freshBooth l es)
 unfolding freshBooth
 fresh-order l es sound sorted = record { sound = sound; cap = omega arith; sorted = sorted }
@@ -79,36 +77,6 @@ fresh-order l es sound sorted = record { sound = sound; cap = omega arith; sorte
 fresh-size : (l : Line) (es : List Entry) → length ((freshBooth l es) .row) ≡ (freshBooth l es) .u
 unfolding freshBooth
 fresh-size l es = refl
-
--- ---- what holds on the way
-
-module _ (ls : List Line) (es : List Entry) where
-  -- booth j as the engine keeps it at t: settled later it is the session's, and it cannot work before w
-  pub record Kept (t j : ℕ) (b : Booth) (w : ℕ) : Type 0 where
-    pub order : InOrder t b
-    pub size : length (b .row) ≡ b .u
-    pub alike : settle t b ≡ boothAt ls es t j
-    pub asleep : (s : ℕ) → t ≤ s → s < w → mayWork s (settle s b) ≡ false
-
-  module _ (H : ℕ) (wall₀ own₀ : List ℕ) where
-    -- t wall ticks are played, and of the booths at t the first i were asked in vain
-    pub record Course (t i : ℕ) (bs : List Booth) (wakes worked : List ℕ) (idle : ℕ) (wall own : List ℕ) : Type 0 where
-      pub few : length bs ≡ length ls
-      pub booth : (j : ℕ) → j < length ls → Kept t j (getD bs j nobooth) (getD wakes j 0)
-      pub asked : (j : ℕ) → j < i → mayWork t (boothAt ls es t j) ≡ false
-      pub short : ShortRows H bs
-      pub rows : own ≡ writeRows H 0 bs own₀
-      pub wall-is : wall ≡ written 0 ((settledAt t ls es) .wall) wall₀
-      pub worked-is : (j : ℕ) → j < length ls → getD worked j 0 ≡ count j ((settledAt t ls es) .wall)
-      pub idle-is : idle ≡ count nobody ((settledAt t ls es) .wall)
-
-    -- all booths before i are settled at H, the others are still to settle
-    pub record Closing (i : ℕ) (bs : List Booth) (own : List ℕ) : Type 0 where
-      pub few : length bs ≡ length ls
-      pub done : (j : ℕ) → j < i → getD bs j nobooth ≡ boothAt ls es H j
-      pub left : (j : ℕ) → i ≤ j → j < length ls → Kept H j (getD bs j nobooth) 0
-      pub short : ShortRows H bs
-      pub rows : own ≡ writeRows H 0 bs own₀
 
 -- ---- its steps
 

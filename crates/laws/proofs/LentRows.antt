@@ -10,6 +10,7 @@ use lib.Seq.{getD-take, getD-drop, getD-append-add, length-take-le, take-append-
 use Rattle.base.specs.Bytes.{written}
 use Rattle.rules.specs.Moves.{Booth}
 use Rattle.rules.specs.Session.{writeRows}
+use Rattle.laws.specs.Courses.{ShortRows}
 
 pub length-written : (at : ℕ) (bytes lent : List ℕ) → at + length bytes ≤ length lent → length (written at bytes lent) ≡ length lent
 unfolding written
@@ -52,11 +53,6 @@ kept-outside at bytes lent n f (inr h) =
     ∙ getD-append-add bytes (drop (at + length bytes) lent) m 0
     ∙ getD-drop (at + length bytes) lent m 0
     ∙ ap (λ x. getD lent x 0) e'
-
--- every row is at most H long
-abbrev pub ShortRows : ℕ → List Booth → Type 0
-ShortRows H [] = Unit {0}
-ShortRows H (b ∷ bs) = (length (b .row) ≤ H) × ShortRows H bs
 
 -- the place n lies in none of the rows that are written from row i on
 abbrev pub Outside : ℕ → ℕ → List Booth → ℕ → Type 0

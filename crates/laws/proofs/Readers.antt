@@ -12,13 +12,14 @@ use lib.ListN.{length, getD}
 use borrow.Author.Tests.{ltb-false, leb-true, leb-false, eqb-false, not-false}
 use Rattle.base.specs.declared.Refusal.{Refusal}
 use Rattle.base.specs.Refusals.{Taken, taken, refused, refuseIf, firstFault}
+use Rattle.rules.specs.FileHead.{headChecks}
 use Rattle.rules.specs.BoothTable.{Line, Placed, linesOf, booths-allowed, longest-period, tableN, headerChecks, recordL, recordEnd, lineAt, placedAt, lengthAllowed, lineChecks, recordChecks, withPlaced, readRecords, readLines}
-use Rattle.rules.specs.ArrivalLog.{Entry, Log, longest-session, entries-allowed, entry-bytes, logN, logH, headChecks, horizonChecks, entryAt, longestJobs, entryChecks, withEntry, readEntries, withHorizon, readLog}
+use Rattle.rules.specs.ArrivalLog.{Entry, Log, longest-session, entries-allowed, entry-bytes, logN, logH, logHeadChecks, horizonChecks, entryAt, longestJobs, entryChecks, withEntry, readEntries, withHorizon, readLog}
 use Rattle.base.proofs.Checks.{neither}
 use Rattle.rules.proofs.Records.{positive, record-passed}
 use Rattle.rules.specs.InRange.{GoodLine}
 use Rattle.laws.specs.Statements.{GoodEntry, no-entry}
-use Rattle.laws.proofs.Entries.{From, Sorted}
+use Rattle.laws.specs.Ordered.{From, Sorted}
 use Rattle.laws.proofs.Checks.{taken-or-refused, taken-once, no-fault}
 
 -- each of a list
@@ -75,7 +76,7 @@ pub record Lines (ls : List Line) : Type 0 where
   pub good : All GoodLine ls
 
 header-length : (bs : List ℕ) → firstFault (headerChecks bs) ≡ none → 3 < length bs
-unfolding headerChecks refuseIf
+unfolding headerChecks headChecks refuseIf
 header-length bs h =
     let p = no-fault (headerChecks bs) h in
     omega (
@@ -203,19 +204,19 @@ pub record LogRead (ls : List Line) (bs : List ℕ) (log : Log) : Type 0 where
   pub whole : length bs ≡ 9 + entry-bytes * length (log .entries)
   pub each : (i : ℕ) → i < length (log .entries) → getD (log .entries) i no-entry ≡ entryAt bs (9 + entry-bytes * i)
 
-header-passed : (bs : List ℕ) → firstFault (headChecks bs ++ horizonChecks bs) ≡ none → (9 ≤ length bs) × (logH bs ≤ longest-session)
+header-passed : (bs : List ℕ) → firstFault (logHeadChecks bs ++ horizonChecks bs) ≡ none → (9 ≤ length bs) × (logH bs ≤ longest-session)
 unfolding headChecks horizonChecks refuseIf
 header-passed bs h =
-    let p = no-fault (headChecks bs ++ horizonChecks bs) h in (
+    let p = no-fault (logHeadChecks bs ++ horizonChecks bs) h in (
       omega (arith, ltb-false (length bs) (5 + logN bs) (p .1 .1 .1 .0), ltb-false (logN bs) 4 (p .1 .1 .1 .1 .1 .0)),
       ltb-false longest-session (logH bs) (p .1 .1 .1 .1 .1 .1 .1 .0),
     )
 
 pub read-log : (ls : List Line) (bs : List ℕ) (log : Log) → readLog ls bs ≡ taken log → LogRead ls bs log
 unfolding readLog withHorizon
-read-log ls bs log h = go (firstFault (headChecks bs ++ horizonChecks bs)) refl (readEntries entries-allowed ls (logH bs) 0 bs 9) refl
+read-log ls bs log h = go (firstFault (logHeadChecks bs ++ horizonChecks bs)) refl (readEntries entries-allowed ls (logH bs) 0 bs 9) refl
   where
-    go : (f : Option Refusal) → firstFault (headChecks bs ++ horizonChecks bs) ≡ f → (t : Taken (List Entry)) → readEntries entries-allowed ls (logH bs) 0 bs 9 ≡ t → LogRead ls bs log
+    go : (f : Option Refusal) → firstFault (logHeadChecks bs ++ horizonChecks bs) ≡ f → (t : Taken (List Entry)) → readEntries entries-allowed ls (logH bs) 0 bs 9 ≡ t → LogRead ls bs log
     go (some r) q t p = absurd (taken-or-refused log r (rw (q, readLog) at h))
     go none q (refused r) p = absurd (taken-or-refused log r (rw p at (rw (q, readLog) at h)))
     go none q (taken es) p =

@@ -13,7 +13,8 @@ use Rattle.rules.specs.BoothTable.{Line}
 use Rattle.rules.specs.ArrivalLog.{Entry}
 use Rattle.rules.specs.Moves.{Booth}
 use Rattle.rules.specs.Session.{freshBooth, openBooths, writeRows}
-use Rattle.laws.proofs.LentRows.{ShortRows, length-written, kept-outside, row-back, length-rows}
+use Rattle.laws.proofs.LentRows.{length-written, kept-outside, row-back, length-rows}
+use Rattle.laws.specs.Courses.{ShortRows}
 
 -- ---- bytes written twice
 

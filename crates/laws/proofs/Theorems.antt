@@ -12,7 +12,7 @@ use Rattle.rules.specs.Moves.{nobody}
 use Rattle.rules.specs.Session.{count, settledAt}
 use Rattle.rules.specs.SoloPart.{solo}
 use Rattle.laws.specs.Statements.{GoodEntry, Accepted, outcome, booths, ticks, lineOf, entriesOf, clockOf, rowOf, settledOf, no-entry, WhatIsAccepted, ThereAt, Opening, asks, Agreement, NoLag, total, demandOf, CountedOnce, Untouched, Pinned}
-use Rattle.laws.proofs.Entries.{Sorted}
+use Rattle.laws.specs.Ordered.{Sorted}
 use Rattle.laws.proofs.Readers.{all-at}
 use Rattle.laws.proofs.Clocks.{whole-periods, never-ahead, never-back, never-behind}
 use Rattle.laws.proofs.Rows.{opened, opening, row-length, worked}

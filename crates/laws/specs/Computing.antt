@@ -7,6 +7,7 @@ use Rattle.base.specs.Refusals
 use Rattle.base.specs.Refusals.{taken, refused}
 use Rattle.rules.specs.Verdicts
 use Rattle.rules.specs.Verdicts.{accepted}
+use Rattle.rules.specs.FileHead
 use Rattle.rules.specs.BoothTable
 use Rattle.rules.specs.BoothTable.{Line}
 use Rattle.rules.specs.ArrivalLog
@@ -26,10 +27,10 @@ unfoldable pub computing : Unit {0}
 unfolding
     Bytes.bigEndian Bytes.numberAt Bytes.written
     Refusals.refusal Refusals.refuseIf Refusals.firstFault Verdicts.accepted Verdicts.refusedAs
-    BoothTable.no-line BoothTable.tableN BoothTable.headerChecks BoothTable.jobsAt BoothTable.recordL BoothTable.recordEnd BoothTable.lineAt BoothTable.placedAt
+    FileHead.headN FileHead.headChecks BoothTable.no-line BoothTable.headerChecks BoothTable.jobsAt BoothTable.recordL BoothTable.recordEnd BoothTable.lineAt BoothTable.placedAt
     BoothTable.lengthAllowed BoothTable.someZero BoothTable.lineChecks BoothTable.recordChecks BoothTable.withPlaced BoothTable.readRecords BoothTable.readLines
     Admission.roundedUp Admission.askedAbove Admission.someUpTo Admission.passes Admission.firstFailing Admission.readTable
-    ArrivalLog.logN ArrivalLog.logH ArrivalLog.headChecks ArrivalLog.horizonChecks ArrivalLog.entryAt ArrivalLog.longestJobs ArrivalLog.entryChecks
+    ArrivalLog.logH ArrivalLog.horizonChecks ArrivalLog.entryAt ArrivalLog.longestJobs ArrivalLog.entryChecks
     ArrivalLog.withEntry ArrivalLog.readEntries ArrivalLog.withHorizon ArrivalLog.readLog Files.readFiles
     Due.due Due.releasePoint
     Moves.noDemand Moves.addDemand Moves.isReady Moves.addReady Moves.stillWaiting Moves.gather Moves.earlier Moves.earliestPoint Moves.moveTo

@@ -7,8 +7,9 @@ use lib.Dec.{leb}
 use lib.ListN.{length, getD}
 use Rattle.base.specs.Refusals.{Taken, taken, refused, refuseIf, refusal, not-admitted}
 use Rattle.base.proofs.Checks.{Refuses, checks-say, end-says}
+use Rattle.rules.specs.FileHead.{headChecks}
 use Rattle.rules.specs.BoothTable.{Line, Placed, linesOf, startsOf, booths-allowed, recordEnd, placedAt, lineChecks, recordChecks, withPlaced, readRecords, headerChecks, readLines}
-use Rattle.rules.specs.ArrivalLog.{Entry, entry-bytes, entries-allowed, entryAt, entryChecks, headChecks, horizonChecks, logH, withEntry, withHorizon, readEntries, readLog}
+use Rattle.rules.specs.ArrivalLog.{Entry, entry-bytes, entries-allowed, entryAt, entryChecks, logHeadChecks, horizonChecks, logH, withEntry, withHorizon, readEntries, readLog}
 use Rattle.rules.specs.Admission.{firstFailing, readTable}
 
 -- some number is said
@@ -36,7 +37,7 @@ records-say (suc room) bs at =
 
 pub lines-say : (bs : List ℕ) → Refuses BeforeAdmission (readLines bs)
 unfolding readLines
-lines-say bs = checks-say BeforeAdmission (headerChecks bs) _ (unfold headerChecks refuseIf refusal in omega arith) (records-say booths-allowed bs 3)
+lines-say bs = checks-say BeforeAdmission (headerChecks bs) _ (unfold headerChecks headChecks refuseIf refusal in omega arith) (records-say booths-allowed bs 3)
 
 pub table-says : (bs : List ℕ) → Refuses Some (readTable bs)
 unfolding readTable refusal
@@ -79,5 +80,5 @@ module _ (ls : List Line) (bs : List ℕ) where
   pub log-says : Refuses Some (readLog ls bs)
   unfolding readLog
   log-says =
-      checks-say Some (headChecks bs ++ horizonChecks bs) _ (unfold headChecks horizonChecks refuseIf refusal in omega arith)
+      checks-say Some (logHeadChecks bs ++ horizonChecks bs) _ (unfold headChecks horizonChecks refuseIf refusal in omega arith)
       (with-horizon (logH bs) _ (entries-say entries-allowed (logH bs) 0 9))

@@ -1,4 +1,3 @@
 pub mod Engine
-pub mod AcceptedLog
 pub mod ByCases
 pub mod Played

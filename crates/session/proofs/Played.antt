@@ -17,29 +17,29 @@ use Rattle.rules.specs.Moves.{Booth, nobody}
 use Rattle.rules.specs.Session.{ownEntries, freshBooth, openBooths, settledAt, count, workedFrom, writeRows, played}
 use Rattle.rules.specs.Values.{padded, lineHeld, linesHeld, no-held-line}
 use Rattle.table.proofs.Test.{lines-in, line-in}
-use Rattle.laws.proofs.Run.{AsRead, getD-map, open-at, length-booths}
-use Rattle.laws.proofs.Course.{nobooth, Course, Closing, begins, closes, closed}
+use Rattle.laws.proofs.Run.{getD-map, open-at, length-booths}
+use Rattle.laws.specs.Ordered.{Sorted}
+use Rattle.laws.specs.Courses.{AsRead, nobooth, Course, Closing}
+use Rattle.laws.proofs.Course.{begins, closes, closed}
 use Rattle.booth.specs.declared.Booth.{Booth as HeldBooth}
-use Rattle.booth.specs.Shown.{shown}
 use Rattle.rules.specs.declared.Verdict.{Verdict}
 use Rattle.base.specs.Refusals.{taken}
 use Rattle.rules.specs.ArrivalLog.{readLog}
 use Rattle.rules.specs.Admission.{readTable}
 use Rattle.rules.specs.Session.{Outcome, nothingDone, session}
 use Rattle.rules.proofs.Held.{zeros}
-use Rattle.arrivals.specs.Places as places
 use Rattle.files.specs.declared.Files.{Files}
 use Rattle.files.specs.Told.{FilesTaken}
 use Rattle.rules.proofs.TwoFiles.{read-in-turn}
 use Rattle.laws.specs.Statements.{Accepted as Session}
 use Rattle.laws.proofs.Answered.{answers, as-read as read-as}
 use Rattle.session.specs.Answer.{nothingAnswered}
-use Rattle.session.proofs.AcceptedLog.{same-entries, log-fits, task-fits}
 use Rattle.session.proofs.ByCases.{plays}
 use Rattle.session.specs.declared.SessionAnswer.{SessionAnswer}
 use Rattle.session.specs.declared.Stage.{Stage}
 use Rattle.session.specs.Answer.{answered}
-use Rattle.session.specs.Running.{entriesOf, logOf, nowhere, linesOf, Same, Alike, Set, Running, OpenedTo, Ready, Ran, Ending, Ended, Playable}
+use Rattle.arrivals.specs.Places.{entriesOf, logOf}
+use Rattle.session.specs.Running.{nowhere, Same, Alike, Running, OpenedTo, Ready, Through, Ending, Ended, Playable}
 use Rattle.session.proofs.Engine.{shown-same, clocks-are, worked-are}
 
 -- an accepted answer with these figures
@@ -55,40 +55,39 @@ module _ (table : Table) (bs wall own : List ℕ) (H : ℕ) (p : Playable table 
   n : ℕ
   n = table .booths
 
-  few : table .booths ≤ 8
+  pub few : table .booths ≤ 8
   few = p .opening .fit .lines .few
 
-  -- the lines that the booths hold are the table's
-  pub lines-are : linesOf (table .booths) hs ≡ linesHeld table
-  unfolding linesOf
-  lines-are =
-      let size : length (take (table .booths) hs) ≡ table .booths = length-take-le (table .booths) hs (omega (arith, o .size, few)) in
-      let long : length (map (λ h. lineHeld (h .line)) (take (table .booths) hs)) ≡ table .booths = length-map (take (table .booths) hs) (λ h. lineHeld (h .line)) ∙ size in
-      ext-getD no-line (map (λ h. lineHeld (h .line)) (take (table .booths) hs)) (linesHeld table) (long ∙ sym (lines-in table (p .opening .fit)))
-      (λ j l.
-      let there : j < table .booths = omega arith in
-      getD-map (λ h. lineHeld (h .line)) (take (table .booths) hs) j nowhere no-line (omega arith)
-      ∙ ap (λ h. lineHeld (h .line)) (getD-take (table .booths) hs j nowhere there)
-      ∙ ap lineHeld (o .line j there)
-      ∙ sym (line-in table j there))
+  pub counted : length (linesHeld table) ≡ table .booths
+  counted = lines-in table (p .opening .fit)
 
-  pub as-read : AsRead (linesOf (table .booths) hs) (entriesOf bs)
-  as-read = subst (λ ls. AsRead ls (entriesOf bs)) (sym lines-are) (p .as-read)
-
-  counted : length (linesOf (table .booths) hs) ≡ table .booths
-  counted = ap length lines-are ∙ lines-in table (p .opening .fit)
-
-  pub room : length (linesOf (table .booths) hs) * H ≤ length own
+  pub room : length (linesHeld table) * H ≤ length own
   room = omega (arith, ap (λ m. m * H) counted, p .own-room)
 
-  pub ready : Ready (table .booths) H hs bs wall own
+  promised : (j : ℕ) → j < table .booths → (lineHeld (getD (table .lines) j no-held-line)) .promise ≡ (getD hs j nowhere) .promise
+  unfolding lineHeld
+  promised j l = sym (o .promise j l)
+
+  opens : (j : ℕ) → j < table .booths
+      → getD (openBooths 0 (linesHeld table) (entriesOf bs)) j nobooth ≡ freshBooth (lineHeld (getD (table .lines) j no-held-line)) (ownEntries j (entriesOf bs))
+  opens j l =
+      open-at 0 (linesHeld table) (entriesOf bs) j (omega (arith, counted))
+      ∙ ap (λ k. freshBooth (getD (linesHeld table) j no-line) (ownEntries k (entriesOf bs))) (zero-add j)
+      ∙ ap (λ x. freshBooth x (ownEntries j (entriesOf bs))) (line-in table j l)
+
+  pub same : (j : ℕ) → j < table .booths → Same bs (getD hs j nowhere) (getD (openBooths 0 (linesHeld table) (entriesOf bs)) j nobooth)
+  same j l =
+      (shown-same (lineHeld (getD (table .lines) j no-held-line)) bs (getD hs j nowhere) _ [] (promised j l) (o .fresh j l [] ∙ sym (opens j l))) .0
+
+  abbrev pub ready : Ready (table .booths) H hs bs wall own
   ready =
       record {
-        set = record { count = counted; few = few; ticks = p .ticks; log = p .opening .log; room = p .own-room; as-read = as-read };
+        lines = linesHeld table;
+        set = record { count = counted; few = few; ticks = p .ticks; log = p .opening .log; room = p .own-room; as-read = p .as-read };
         wall-room = p .wall-room;
         running = record {
-          booths = openBooths 0 (linesOf (table .booths) hs) (entriesOf bs);
-          course = begins (linesOf (table .booths) hs) (entriesOf bs) as-read H wall own (p .wall-room) room;
+          booths = openBooths 0 (linesHeld table) (entriesOf bs);
+          course = begins (linesHeld table) (entriesOf bs) (p .as-read) H wall own (p .wall-room) room;
           alike = record {
             size = o .size;
             fit = λ j l. o .fit j (omega (arith, counted));
@@ -100,26 +99,15 @@ module _ (table : Table) (bs wall own : List ℕ) (H : ℕ) (p : Playable table 
           others = λ j l. zeros 8 j;
         };
       }
-    where
-      opens : (j : ℕ) → j < table .booths
-          → getD (openBooths 0 (linesOf (table .booths) hs) (entriesOf bs)) j nobooth ≡ freshBooth (lineHeld (getD (table .lines) j no-held-line)) (ownEntries j (entriesOf bs))
-      opens j l =
-          open-at 0 (linesOf (table .booths) hs) (entriesOf bs) j (omega (arith, counted))
-          ∙ ap (λ k. freshBooth (getD (linesOf (table .booths) hs) j no-line) (ownEntries k (entriesOf bs))) (zero-add j)
-          ∙ ap (λ ls. freshBooth (getD ls j no-line) (ownEntries j (entriesOf bs))) lines-are
-          ∙ ap (λ x. freshBooth x (ownEntries j (entriesOf bs))) (line-in table j l)
 
-      same : (j : ℕ) → j < table .booths → Same bs (getD hs j nowhere) (getD (openBooths 0 (linesOf (table .booths) hs) (entriesOf bs)) j nobooth)
-      same j l = (shown-same bs (getD hs j nowhere) _ [] (o .fresh j l [] ∙ sym (opens j l))) .0
-
-  module _ (s : Stage) (wall₁ own₁ : List ℕ) (ran : Ran (table .booths) H hs bs wall own s wall₁ own₁) (kept : length own₁ ≡ length own) where
-    abbrev running : Running (linesOf (table .booths) hs) H bs wall own H (ran .asked) (s .booths) (ran .wakes) (s .worked) (s .idle) wall₁ own₁
+  module _ (s : Stage) (wall₁ own₁ : List ℕ) (ran : Through (linesHeld table) H bs wall own s wall₁ own₁) (kept : length own₁ ≡ length own) where
+    abbrev running : Running (linesHeld table) H bs wall own H (ran .asked) (s .booths) (ran .wakes) (s .worked) (s .idle) wall₁ own₁
     running = ran .running
 
     abbrev pub ended : Ended (table .booths) H (s .booths) bs own₁
     ended =
         record {
-          lines = linesOf (table .booths) hs;
+          lines = linesHeld table;
           wall₀ = wall;
           own₀ = own;
           set = ready .set;
@@ -128,17 +116,16 @@ module _ (table : Table) (bs wall own : List ℕ) (H : ℕ) (p : Playable table 
           ending = record {
             booths = running .booths;
             closing =
-                closes (linesOf (table .booths) hs) (entriesOf bs) as-read H wall own (p .wall-room) room (ran .asked) (running .booths) (ran .wakes) (s .worked) (s .idle) wall₁ own₁ (running .course);
+                closes (linesHeld table) (entriesOf bs) (p .as-read) H wall own (p .wall-room) room (ran .asked) (running .booths) (ran .wakes) (s .worked) (s .idle) wall₁ own₁ (running .course);
             alike = running .alike;
           };
         }
 
-    module _ (last : List HeldBooth) (own₂ clocks : List ℕ) (e : Ending (linesOf (table .booths) hs) H bs wall own (table .booths) last own₂)
+    module _ (last : List HeldBooth) (own₂ clocks : List ℕ) (e : Ending (linesHeld table) H bs wall own (table .booths) last own₂)
         (noted : clocks ≡ padded 8 0 (map (λ h. h .clock .0) (take (table .booths) last))) where
       final : e .booths ≡ (settledAt H (linesHeld table) (entriesOf bs)) .booths
       final =
-          closed (linesOf (table .booths) hs) (entriesOf bs) as-read H wall own (p .wall-room) room (table .booths) (e .booths) own₂ (e .closing) (sym counted)
-          ∙ ap (λ ls. (settledAt H ls (entriesOf bs)) .booths) lines-are
+          closed (linesHeld table) (entriesOf bs) (p .as-read) H wall own (p .wall-room) room (table .booths) (e .booths) own₂ (e .closing) (sym counted)
 
       size : length (e .booths) ≡ table .booths
       size = e .closing .few ∙ counted
@@ -149,18 +136,14 @@ module _ (table : Table) (bs wall own : List ℕ) (H : ℕ) (p : Playable table 
           ∙ ap (padded 8 0) (clocks-are bs (table .booths) last (e .booths) (subst (λ m. Alike bs m last (e .booths)) counted (e .alike)) few size)
           ∙ ap (λ x. padded 8 0 (map (λ b. b .u) x)) final
 
-      wall-same : (settledAt H (linesOf (table .booths) hs) (entriesOf bs)) .wall ≡ (settledAt H (linesHeld table) (entriesOf bs)) .wall
-      wall-same = ap (λ ls. (settledAt H ls (entriesOf bs)) .wall) lines-are
-
       worked-is : s .worked ≡ padded 8 0 (workedFrom 0 (length (linesHeld table)) ((settledAt H (linesHeld table) (entriesOf bs)) .wall))
       worked-is =
-          worked-are (s .worked) ((settledAt H (linesOf (table .booths) hs) (entriesOf bs)) .wall) (table .booths) few (running .worked-eight)
+          worked-are (s .worked) ((settledAt H (linesHeld table) (entriesOf bs)) .wall) (table .booths) few (running .worked-eight)
           (λ j l. running .course .worked-is j (omega (arith, counted))) (λ j l. running .others j (omega (arith, counted)))
-          ∙ ap (λ w. padded 8 0 (workedFrom 0 (table .booths) w)) wall-same
           ∙ ap (λ m. padded 8 0 (workedFrom 0 m ((settledAt H (linesHeld table) (entriesOf bs)) .wall))) (sym (lines-in table (p .opening .fit)))
 
       idle-is : s .idle ≡ count nobody ((settledAt H (linesHeld table) (entriesOf bs)) .wall)
-      idle-is = running .course .idle-is ∙ ap (count nobody) wall-same
+      idle-is = running .course .idle-is
 
       booths-is : table .booths ≡ length (map (λ (b : Booth). b .u) ((settledAt H (linesHeld table) (entriesOf bs)) .booths))
       booths-is =
@@ -172,7 +155,7 @@ module _ (table : Table) (bs wall own : List ℕ) (H : ℕ) (p : Playable table 
 
       pub wall-is : wall₁ ≡ (played (linesHeld table) (logOf H bs) wall own) .wall
       unfolding played logOf
-      wall-is = running .course .wall-is ∙ ap (λ w. written 0 w wall) wall-same
+      wall-is = running .course .wall-is
 
       pub own-is : own₂ ≡ (played (linesHeld table) (logOf H bs) wall own) .own
       unfolding played logOf
@@ -192,7 +175,7 @@ module _ (tableBytes logBytes wall own : List ℕ) (f : Files) (k : FilesTaken t
   ls = linesHeld (f .table)
 
   log : Log
-  log = places.logOf H logBytes
+  log = logOf H logBytes
 
   read : (readTable tableBytes ≡ taken ls) × (readLog ls logBytes ≡ taken log)
   unfolding log
@@ -203,7 +186,7 @@ module _ (tableBytes logBytes wall own : List ℕ) (f : Files) (k : FilesTaken t
     own-fits = omega (arith, ap (λ m. m * H) (lines-in (f .table) (k .fit)))
 
     whole : Session
-    unfolding log places.logOf
+    unfolding log logOf
     whole =
         record {
           tableBytes = tableBytes;
@@ -218,24 +201,20 @@ module _ (tableBytes logBytes wall own : List ℕ) (f : Files) (k : FilesTaken t
         }
 
     pub playable : Playable (f .table) logBytes wall own H
-    unfolding whole log places.logOf
+    unfolding whole log logOf
     playable =
         record {
           opening = record {
             fit = k .fit;
-            log = log-fits tableBytes logBytes f k;
-            own = task-fits tableBytes logBytes f k;
+            log = k .whole;
+            own = k .tasks;
           };
-          as-read = subst (AsRead ls) (same-entries logBytes) (read-as whole);
+          as-read = read-as whole;
           ticks = k .short;
           wall-room = wall-room;
           own-room = own-room;
         }
 
-    log-is : logOf H logBytes ≡ places.logOf H logBytes
-    unfolding logOf places.logOf
-    log-is = ap (λ es. record { horizon = H; entries = es }) (sym (same-entries logBytes))
-
     pub plays-it : session tableBytes logBytes wall own ≡ played ls (logOf H logBytes) wall own
-    unfolding places.logOf
-    plays-it = plays tableBytes logBytes wall own ls (places.logOf H logBytes) (k .read) wall-room own-fits ∙ ap (λ l. played ls l wall own) (sym log-is)
+    unfolding logOf
+    plays-it = plays tableBytes logBytes wall own ls (logOf H logBytes) (k .read) wall-room own-fits

@@ -11,43 +11,32 @@ use Rattle.rules.specs.Moves.{Booth}
 use Rattle.rules.specs.Session.{ownEntries, freshBooth}
 use Rattle.rules.specs.Values.{padded, lineHeld, linesHeld, no-held-line}
 use Rattle.table.specs.Fit.{FitTable}
-use Rattle.laws.proofs.Run.{AsRead}
-use Rattle.laws.proofs.Course.{nobooth, Course, Closing}
+use Rattle.arrivals.specs.Places.{entriesFrom, waitingAt, Place, WholeLog, entriesOf}
+use Rattle.laws.specs.Courses.{AsRead, nobooth, Course, Closing}
 use Rattle.booth.specs.declared.Booth.{Booth as HeldBooth}
-use Rattle.booth.specs.Shown as shows
-use Rattle.booth.specs.Shown.{entriesFrom, waitingAt, Place, Fit}
+use Rattle.booth.specs.BoothHeld.{shown, Fit}
 use Rattle.session.specs.declared.Stage.{Stage}
-
--- the entries of an accepted log, and the log with its wall ticks
-unfoldable pub entriesOf : List ℕ → List Entry
-entriesOf bs = entriesFrom ((length bs - 9) / 9) bs 9
-
-unfoldable pub logOf : ℕ → List ℕ → Log
-logOf H bs = record { horizon = H; entries = entriesOf bs }
 
 -- stands past the end of an array of booths, where nothing is read
 abbrev pub nowhere : HeldBooth
 nowhere =
     record {
       number = 0;
-      line = no-held-line;
-      clock = record { 0 = 0 };
+      tasks = 0;
+      demand = [];
+      first = 0;
       at = 0;
+      promise = record { period = 0; allowance = 0 };
+      clock = record { 0 = 0 };
       tick = record { 0 = 0 };
       point = record { 0 = 0 };
-      first = 0;
-      demand = [];
     }
 
--- the lines of the first n booths
-unfoldable pub linesOf : ℕ → List HeldBooth → List Line
-linesOf n hs = map (λ h. lineHeld (h .line)) (take n hs)
-
--- a held booth is a booth of the rules, but for its row, which lies in the own record
+-- a held booth is a booth of the rules, but for its longest jobs, which the table has, and its row, which lies in the own record
 pub record Same (bs : List ℕ) (h : HeldBooth) (b : Booth) : Type 0 where
-  pub line : b .line ≡ lineHeld (h .line)
+  pub promise : b .line .promise ≡ h .promise
   pub clock : b .u ≡ h .clock .0
-  pub left : b .left ≡ take (h .line .tasks) (h .demand)
+  pub left : b .left ≡ take (h .tasks) (h .demand)
   pub waiting : b .waiting ≡ waitingAt bs (h .number) (h .at)
 
 pub record Alike (bs : List ℕ) (n : ℕ) (hs : List HeldBooth) (booths : List Booth) : Type 0 where
@@ -70,13 +59,13 @@ pub record Set (ls : List Line) (n H : ℕ) (bs own : List ℕ) : Type 0 where
   pub count : length ls ≡ n
   pub few : n ≤ 8
   pub ticks : H ≤ 1000000
-  pub log : shows.Log bs
+  pub log : WholeLog bs
   pub room : n * H ≤ length own
   pub as-read : AsRead ls (entriesOf bs)
 
-pub record Opening (table : Table) (bs : List ℕ) : Type 0 where
+pub record ToOpen (table : Table) (bs : List ℕ) : Type 0 where
   pub fit : FitTable table
-  pub log : shows.Log bs
+  pub log : WholeLog bs
   pub own : (j at : ℕ) → j < table .booths → Place bs at → at < length bs → (entryAt bs at) .booth ≡ j → (entryAt bs at) .task < (getD (table .lines) j no-held-line) .tasks
 
 -- the first j booths as document 01 opens them
@@ -84,16 +73,18 @@ pub record OpenedTo (j : ℕ) (lines : List HeldLine) (bs : List ℕ) (hs : List
   pub size : length hs ≡ 8
   pub fit : (k : ℕ) → k < j → Fit bs (getD hs k nowhere)
   pub number : (k : ℕ) → k < j → (getD hs k nowhere) .number ≡ k
-  pub line : (k : ℕ) → k < j → (getD hs k nowhere) .line ≡ getD lines k no-held-line
-  pub fresh : (k : ℕ) → k < j → (row : List ℕ) → shows.shown bs (getD hs k nowhere) row ≡ freshBooth (lineHeld (getD lines k no-held-line)) (ownEntries k (entriesOf bs))
+  pub promise : (k : ℕ) → k < j → (getD hs k nowhere) .promise ≡ (getD lines k no-held-line) .promise
+  pub fresh : (k : ℕ) → k < j → (row : List ℕ)
+      → shown (lineHeld (getD lines k no-held-line)) bs (getD hs k nowhere) row ≡ freshBooth (lineHeld (getD lines k no-held-line)) (ownEntries k (entriesOf bs))
 
 abbrev pub Opened : Table → List ℕ → List HeldBooth → Type 0
 Opened table bs hs = OpenedTo (table .booths) (table .lines) bs hs
 
 pub record Ready (n H : ℕ) (start : List HeldBooth) (bs wall own : List ℕ) : Type 0 where
-  pub set : Set (linesOf n start) n H bs own
+  pub lines : List Line
+  pub set : Set lines n H bs own
   pub wall-room : H ≤ length wall
-  pub running : Running (linesOf n start) H bs wall own 0 0 start (replicate 8 0) (replicate 8 0) 0 wall own
+  pub running : Running lines H bs wall own 0 0 start (replicate 8 0) (replicate 8 0) 0 wall own
 
 -- the booths from one on sleep at t, up to the first that is awake
 pub record NextAwake (wakes : List ℕ) (n from t r : ℕ) : Type 0 where
@@ -103,10 +94,14 @@ pub record NextAwake (wakes : List ℕ) (n from t r : ℕ) : Type 0 where
   pub awake : r < n → getD wakes r 0 ≤ t
 
 -- all H wall ticks are played
-pub record Ran (n H : ℕ) (start : List HeldBooth) (bs wall₀ own₀ : List ℕ) (s : Stage) (wall own : List ℕ) : Type 0 where
+pub record Through (ls : List Line) (H : ℕ) (bs wall₀ own₀ : List ℕ) (s : Stage) (wall own : List ℕ) : Type 0 where
   pub asked : ℕ
   pub wakes : List ℕ
-  pub running : Running (linesOf n start) H bs wall₀ own₀ H asked (s .booths) wakes (s .worked) (s .idle) wall own
+  pub running : Running ls H bs wall₀ own₀ H asked (s .booths) wakes (s .worked) (s .idle) wall own
+
+-- whatever session the booths were ready for, it is played
+abbrev pub Ran : ℕ → ℕ → List HeldBooth → List ℕ → List ℕ → List ℕ → Stage → List ℕ → List ℕ → Type 0
+Ran n H start bs wall₀ own₀ s wall own = (e : Ready n H start bs wall₀ own₀) → Through (e .lines) H bs wall₀ own₀ s wall own
 
 -- the booths before i are settled at H; own₀ is the own record as it was lent
 pub record Ending (ls : List Line) (H : ℕ) (bs wall₀ own₀ : List ℕ) (i : ℕ) (hs : List HeldBooth) (own : List ℕ) : Type 0 where
@@ -132,7 +127,7 @@ Clocks n hs clocks = clocks ≡ padded 8 0 (map (λ h. h .clock .0) (take n hs))
 
 -- table and log were taken, and the records have room
 pub record Playable (table : Table) (bs wall own : List ℕ) (H : ℕ) : Type 0 where
-  pub opening : Opening table bs
+  pub opening : ToOpen table bs
   pub as-read : AsRead (linesHeld table) (entriesOf bs)
   pub ticks : H ≤ 1000000
   pub wall-room : H ≤ length wall

@@ -5,10 +5,10 @@ ghost use lib.ListN.{length};
 ghost use Rattle.rules.specs.Session as page;
 ghost use Rattle.rules.specs.Values.{linesHeld};
 ghost use Rattle.session.specs.Answer as said;
-ghost use Rattle.session.specs.Running.{logOf, Opening, Opened, Ready, NextAwake, Ran, Ended, Closed, Clocks, Playable};
+ghost use Rattle.arrivals.specs.Places.{logOf};
+ghost use Rattle.session.specs.Running.{ToOpen, Opened, Ready, NextAwake, Ran, Ended, Closed, Clocks, Playable};
 use base::Refusal;
 use booth::Booth;
-use booth::Chosen;
 use rules::BOOTHS_ALLOWED;
 use rules::NOBODY;
 use rules::Refused;
@@ -47,7 +47,7 @@ impl Stage {
 
 // Every booth of the table before wall tick 0.
 fn open_all(table: Table, log: &[u8]) -> [Booth; BOOTHS_ALLOWED]
-    requires { ⌜ Opening table (now log) ⌝ }
+    requires { ⌜ ToOpen table (now log) ⌝ }
     ensures { λ r. ⌜ Opened table (now (log .entry)) r ⌝ }
 {
     let lines = table.lines;
@@ -105,22 +105,18 @@ fn run(
             continue;
         }
         let a = i * h;
-        let row = &mut own[a..a + h];
-        let tick = WallTick(t as u32);
-        let settled = booths[i].settle(log, &mut row[..], tick);
-        let Chosen::Task(k) = settled.choose(tick) else {
-            wakes[i] = settled.wakes();
-            booths[i] = settled;
-            i += 1;
+        let asked = booths[i].ask(log, &mut own[a..a + h], WallTick(t as u32));
+        let booth = asked.booth;
+        booths[i] = booth;
+        wakes[i] = asked.wakes.0 as usize;
+        if asked.worked {
+            wall[t] = i as u8;
+            worked[i] += 1;
+            t += 1;
+            i = 0;
             continue;
-        };
-        let played = settled.play(row, k);
-        wakes[i] = played.wakes();
-        booths[i] = played;
-        wall[t] = i as u8;
-        worked[i] += 1;
-        t += 1;
-        i = 0;
+        }
+        i += 1;
     }
     Stage::after(booths, worked, idle)
 }

@@ -5,8 +5,8 @@ use native.Mathlib.Omega.{arith}
 use borrow.Author.Needs.{needs}
 use lib.ListN.{length}
 use Rattle.rules.specs.ArrivalLog.{entryAt}
-use Rattle.booth.specs.Shown.{waitingAt, Place}
-use Rattle.booth.proofs.Waiting.{whole-entry, waiting-other}
+use Rattle.arrivals.specs.Places.{waitingAt, Place}
+use Rattle.arrivals.proofs.Places.{whole-entry, waiting-other}
 use Rattle.booth.proofs.next_of.Statement.{statement}
 use Rattle.booth.proofs.next_of.Tie as tie
 
@@ -19,40 +19,29 @@ abbrev μ-loop : tie.MeasureT-loop
 loop-holds : tie.Need-loop-holds Inv-loop μ-loop
 loop-holds c = (c .before .pre, omega arith, refl)
 
-add-wide : tie.Need-add-wide Inv-loop μ-loop
-add-wide c = omega (arith, (whole-entry (c .before .before .before .args .log .now) (c .before .loop .at) (c .before .loop .inv .0) (c .loop-test .taken)) .0)
-
-shared-slice-read-wide : tie.Need-shared-slice-read-wide Inv-loop μ-loop
-shared-slice-read-wide c = omega (arith, (whole-entry (c .before .before .before .before .args .log .now) (c .before .before .loop .at) (c .before .before .loop .inv .0) (c .before .loop-test .taken)) .0)
-
-wide-requires : tie.Need-wide-requires Inv-loop μ-loop
-wide-requires c κs = tt
-
-cast-if1 : tie.Need-cast-if1 Inv-loop μ-loop
-cast-if1 c = search needs
+entry-booth-requires : tie.Need-entry-booth-requires Inv-loop μ-loop
+entry-booth-requires c κs = (whole-entry (c .before .before .before .args .log .now) (c .before .loop .at) (c .before .loop .inv .0) (c .loop-test .taken)) .0
 
 returns : tie.Need-returns Inv-loop μ-loop
-unfolding entryAt
 returns c =
-    let inv = c .before .before .before .before .loop .inv in
-    record { place = inv .0; later = inv .1; same = inv .2; here = λ h. sym (c .before .wide .ensures .0) ∙ c .if1 .taken }
+    let inv = c .before .before .before .loop .inv in
+    record { place = inv .0; later = inv .1; same = inv .2; here = λ h. sym (c .before .entry-booth .ensures) ∙ c .if1 .taken }
 
 add-at : tie.Need-add-at Inv-loop μ-loop
-add-at c = omega (arith, (whole-entry (c .before .before .before .before .before .before .args .log .now) (c .before .before .before .before .loop .at) (c .before .before .before .before .loop .inv .0) (c .before .before .before .loop-test .taken)) .0)
+add-at c = omega (arith, (whole-entry (c .before .before .before .before .before .args .log .now) (c .before .before .before .loop .at) (c .before .before .before .loop .inv .0) (c .before .before .loop-test .taken)) .0)
 
 loop-less : tie.Need-loop-less Inv-loop μ-loop
 loop-less c = search needs
 
 loop-again : tie.Need-loop-again Inv-loop μ-loop
-unfolding entryAt
 loop-again c =
-    let bs = c .before .before .before .before .before .before .args .log .now in
-    let at = c .before .before .before .before .loop .at in
-    let inv = c .before .before .before .before .loop .inv in
-    let inside = c .before .before .before .loop-test .taken in (
+    let bs = c .before .before .before .before .before .args .log .now in
+    let at = c .before .before .before .loop .at in
+    let inv = c .before .before .before .loop .inv in
+    let inside = c .before .before .loop-test .taken in (
       (whole-entry bs at (inv .0) inside) .1,
       omega arith,
-      sym (waiting-other bs (c .before .before .before .before .before .before .args .number) at (inv .0) inside (λ e. c .if1 .left (c .before .wide .ensures .0 ∙ e))) ∙ inv .2,
+      sym (waiting-other bs (c .before .before .before .before .before .args .number) at (inv .0) inside (λ e. c .if1 .left (c .before .entry-booth .ensures ∙ e))) ∙ inv .2,
     )
 
 returns-2 : tie.Need-returns-2 Inv-loop μ-loop
@@ -65,10 +54,7 @@ next-of-spec =
     Inv-loop
     μ-loop
     loop-holds
-    add-wide
-    shared-slice-read-wide
-    wide-requires
-    cast-if1
+    entry-booth-requires
     returns
     add-at
     loop-less

@@ -21,8 +21,12 @@ run-requires c κs =
 
 close-requires : tie.Need-close-requires
 close-requires c κs =
-    let st = c .before .before .before .before .before .before .before .before .before .before .before .before .before in
-    ended (st .args .table) (st .args .log .now) (st .args .wall .now) (st .args .own .now) (st .args .h) (st .pre) (c .before .before .before .before .before .before .before .before .before .open-all .result) (c .before .before .before .before .before .before .before .before .before .open-all .ensures) (c .before .before .before .before .before .before .run .result) (c .before .before .before .before .before .before .run .last .1 .1 .1 .0) (c .before .before .before .before .before .before .run .last .1 .1 .1 .1 .0) (c .before .before .before .before .before .before .run .ensures) (c .before .before .before .before .before .before .run .kept .1 .1 .1 .1 .0)
+    let st = c .before .before .before .before .before .before .before .before .before .before .before .before .before .args in
+    let pre = c .before .before .before .before .before .before .before .before .before .before .before .before .before .pre in
+    let o = c .before .before .before .before .before .before .before .before .before .open-all in
+    let run = c .before .before .before .before .before .before .run in
+    ended (st .table) (st .log .now) (st .wall .now) (st .own .now) (st .h) pre (o .result) (o .ensures) (run .result) (run .last .1 .1 .1 .0) (run .last .1 .1 .1 .1 .0)
+    (run .ensures (ready (st .table) (st .log .now) (st .wall .now) (st .own .now) (st .h) pre (o .result) (o .ensures))) (run .kept .1 .1 .1 .1 .0)
 
 clocks-of-requires : tie.Need-clocks-of-requires
 clocks-of-requires c κs = search needs
@@ -38,14 +42,21 @@ same-length-2 c = search needs
 
 returns : tie.Need-returns
 returns c =
-    let st = c .before .before .before .before .before .before .before .before .before .before .before .before .before .before .before .before .before .before in
-    let e = ended (st .args .table) (st .args .log .now) (st .args .wall .now) (st .args .own .now) (st .args .h) (st .pre) (c .before .before .before .before .before .before .before .before .before .before .before .before .before .before .open-all .result) (c .before .before .before .before .before .before .before .before .before .before .before .before .before .before .open-all .ensures) (c .before .before .before .before .before .before .before .before .before .before .before .run .result) (c .before .before .before .before .before .before .before .before .before .before .before .run .last .1 .1 .1 .0) (c .before .before .before .before .before .before .before .before .before .before .before .run .last .1 .1 .1 .1 .0) (c .before .before .before .before .before .before .before .before .before .before .before .run .ensures) (c .before .before .before .before .before .before .before .before .before .before .before .run .kept .1 .1 .1 .1 .0) in
+    let st = c .before .before .before .before .before .before .before .before .before .before .before .before .before .before .before .before .before .before .args in
+    let pre = c .before .before .before .before .before .before .before .before .before .before .before .before .before .before .before .before .before .before .pre in
+    let o = c .before .before .before .before .before .before .before .before .before .before .before .before .before .before .open-all in
+    let run = c .before .before .before .before .before .before .before .before .before .before .before .run in
     let x = c .before .before .before .before .close in
-    let all = x .ensures e in (
-      answer-is (st .args .table) (st .args .log .now) (st .args .wall .now) (st .args .own .now) (st .args .h) (st .pre) (c .before .before .before .before .before .before .before .before .before .before .before .before .before .before .open-all .result) (c .before .before .before .before .before .before .before .before .before .before .before .before .before .before .open-all .ensures) (c .before .before .before .before .before .before .before .before .before .before .before .run .result) (c .before .before .before .before .before .before .before .before .before .before .before .run .last .1 .1 .1 .0) (c .before .before .before .before .before .before .before .before .before .before .before .run .last .1 .1 .1 .1 .0) (c .before .before .before .before .before .before .before .before .before .before .before .run .ensures) (c .before .before .before .before .before .before .before .before .before .before .before .run .kept .1 .1 .1 .1 .0) (x .result) (x .last .1 .1 .1 .0) (c .before .clocks-of .result) all (c .before .clocks-of .ensures),
+    let clocks = c .before .clocks-of in
+    let through = run .ensures (ready (st .table) (st .log .now) (st .wall .now) (st .own .now) (st .h) pre (o .result) (o .ensures)) in
+    let all = x .ensures (ended (st .table) (st .log .now) (st .wall .now) (st .own .now) (st .h) pre (o .result) (o .ensures) (run .result) (run .last .1 .1 .1 .0) (run .last .1 .1 .1 .1 .0) through (run .kept .1 .1 .1 .1 .0)) in (
+      answer-is (st .table) (st .log .now) (st .wall .now) (st .own .now) (st .h) pre (o .result) (o .ensures) (run .result) (run .last .1 .1 .1 .0) (run .last .1 .1 .1 .1 .0) through (run .kept .1 .1 .1 .1 .0)
+          (x .result) (x .last .1 .1 .1 .0) (clocks .result) all (clocks .ensures),
       (
-        wall-is (st .args .table) (st .args .log .now) (st .args .wall .now) (st .args .own .now) (st .args .h) (st .pre) (c .before .before .before .before .before .before .before .before .before .before .before .before .before .before .open-all .result) (c .before .before .before .before .before .before .before .before .before .before .before .before .before .before .open-all .ensures) (c .before .before .before .before .before .before .before .before .before .before .before .run .result) (c .before .before .before .before .before .before .before .before .before .before .before .run .last .1 .1 .1 .0) (c .before .before .before .before .before .before .before .before .before .before .before .run .last .1 .1 .1 .1 .0) (c .before .before .before .before .before .before .before .before .before .before .before .run .ensures) (c .before .before .before .before .before .before .before .before .before .before .before .run .kept .1 .1 .1 .1 .0) (x .result) (x .last .1 .1 .1 .0) (c .before .clocks-of .result) all (c .before .clocks-of .ensures),
-        own-is (st .args .table) (st .args .log .now) (st .args .wall .now) (st .args .own .now) (st .args .h) (st .pre) (c .before .before .before .before .before .before .before .before .before .before .before .before .before .before .open-all .result) (c .before .before .before .before .before .before .before .before .before .before .before .before .before .before .open-all .ensures) (c .before .before .before .before .before .before .before .before .before .before .before .run .result) (c .before .before .before .before .before .before .before .before .before .before .before .run .last .1 .1 .1 .0) (c .before .before .before .before .before .before .before .before .before .before .before .run .last .1 .1 .1 .1 .0) (c .before .before .before .before .before .before .before .before .before .before .before .run .ensures) (c .before .before .before .before .before .before .before .before .before .before .before .run .kept .1 .1 .1 .1 .0) (x .result) (x .last .1 .1 .1 .0) (c .before .clocks-of .result) all (c .before .clocks-of .ensures),
+        wall-is (st .table) (st .log .now) (st .wall .now) (st .own .now) (st .h) pre (o .result) (o .ensures) (run .result) (run .last .1 .1 .1 .0) (run .last .1 .1 .1 .1 .0) through (run .kept .1 .1 .1 .1 .0)
+            (x .result) (x .last .1 .1 .1 .0) (clocks .result) all (clocks .ensures),
+        own-is (st .table) (st .log .now) (st .wall .now) (st .own .now) (st .h) pre (o .result) (o .ensures) (run .result) (run .last .1 .1 .1 .0) (run .last .1 .1 .1 .1 .0) through (run .kept .1 .1 .1 .1 .0)
+            (x .result) (x .last .1 .1 .1 .0) (clocks .result) all (clocks .ensures),
       ),
     )
 

@@ -4,7 +4,7 @@ use mathlib.Core.Logic.{⊎-elim}
 use Prim.Native.Nat.{_+_, _-_, _≤_, _<_}
 use native.Mathlib.Omega.{arith}
 use lib.ListN.{length, getD, set}
-use Rattle.booth.specs.Shown.{demanding, firstOf}
+use Rattle.booth.specs.BoothHeld.{demanding, firstOf}
 use Rattle.booth.proofs.Demand.{demand-or-none, first-earlier, first-same}
 use borrow.Author.Needs.{needs}
 use Rattle.booth.proofs.Booth.add.Statement.{statement}

@@ -4,13 +4,12 @@ use Prim.Native.Nat.{ℕ, _+_, _-_, _≤_, _<_}
 use native.Mathlib.Omega.{arith}
 use borrow.Author.Needs.{needs}
 use lib.ListN.{length, drop}
-use Rattle.rules.specs.declared.Line.{Line}
+use Rattle.rules.specs.declared.Promise.{Promise}
 use Rattle.rules.specs.Due.{due}
-use Rattle.laws.proofs.DueLaws.{due-at-most}
 use Rattle.booth.specs.declared.Booth.{Booth}
-use Rattle.booth.specs.Shown.{shown, clockAt, Fit}
+use Rattle.booth.specs.BoothHeld.{shown, clockAt, Fit}
 use Rattle.booth.proofs.Taking.{fit-moved}
-use Rattle.booth.proofs.Settling.{Settling, sound-promise, settles-first, settles-on, due-fits, settled-busy, settled-free, takes-inside, point-due, behind-moved}
+use Rattle.booth.proofs.Settling.{Settling, settles-first, settles-on, due-fits, settled-busy, settled-free, takes-inside, point-due, behind-moved}
 use Rattle.booth.proofs.Booth.catch_up.Statement.{statement}
 use Rattle.booth.proofs.Booth.catch_up.Tie as tie
 use Rattle.booth.proofs.Booth.catch_up.Reads as reads
@@ -70,53 +69,57 @@ loop-again c =
     let more = takes-inside bs h row t (s .fit) (start .pre .2) test in
     let next = c .before .before .take-next in
     settles-on bs t (start .args .self) (start .args .row .now) h row s (fits .0) more test (next .result) (next .last .1 .1 .0) (next .ensures .0 .0) (next .ensures .0 .2)
-    (next .ensures .0 .3) (next .ensures .1 .0) (next .ensures .1 .1) (next .kept .1 .1 .0)
+    (next .ensures .1 .0) (next .ensures .1 .1) (next .kept .1 .1 .0)
 
 due-requires : tie.Need-due-requires Inv-loop μ-loop
-due-requires c κs = (c .before .before .before .before .before .before .loop .inv .fit .steady .sound .period, c .before .before .before .before .before .before .loop .inv .fit .steady .sound .within)
+due-requires c κs = c .before .before .before .before .before .loop .inv .fit .steady .sound
 
 pass-requires : tie.Need-pass-requires Inv-loop μ-loop
 pass-requires c κs =
-    let start = c .before .before .before .before .before .before .before .before .before .before .before in
+    let start = c .before .before .before .before .before .before .before .before .before .before in
     let bs = start .args .log .now in
     let t = start .args .t .0 in
-    let h = c .before .before .before .before .before .before .before .before .loop .self in
-    let row = c .before .before .before .before .before .before .before .before .loop .row in
-    let s = c .before .before .before .before .before .before .before .before .loop .inv in
+    let h = c .before .before .before .before .before .before .before .loop .self in
+    let row = c .before .before .before .before .before .before .before .loop .row in
+    let s = c .before .before .before .before .before .before .before .loop .inv in
     let fits = due-fits bs t (start .args .self) (start .args .row .now) h row s (start .pre .3) in
-    let test = sym (c .before .before .before .before .before .before .before .takes .ensures) ∙ c .before .before .before .before .before .before .if1 .left in
+    let test = sym (c .before .before .before .before .before .before .takes .ensures) ∙ c .before .before .before .before .before .if1 .left in
     (fits .0, omega (arith, fits .1, c .before .due .ensures))
 
 same-length : tie.Need-same-length Inv-loop μ-loop
-same-length c = c .before .before .pass .kept .1 .0 ∙ c .before .before .before .before .before .before .before .before .before .before .before .loop .inv .long
+same-length c = c .before .before .pass .kept .1 .0 ∙ c .before .before .before .before .before .before .before .before .before .before .loop .inv .long
 
 returns : tie.Need-returns Inv-loop μ-loop
 unfolding clockAt
 returns c =
-    let start = c .before .before .before .before .before .before .before .before .before .before .before .before .before .before in
+    let start = c .before .before .before .before .before .before .before .before .before .before .before .before .before in
     let bs = start .args .log .now in
     let t = start .args .t .0 in
-    let h = c .before .before .before .before .before .before .before .before .before .before .before .loop .self in
-    let row = c .before .before .before .before .before .before .before .before .before .before .before .loop .row in
-    let s = c .before .before .before .before .before .before .before .before .before .before .before .loop .inv in
+    let h = c .before .before .before .before .before .before .before .before .before .before .loop .self in
+    let row = c .before .before .before .before .before .before .before .before .before .before .loop .row in
+    let s = c .before .before .before .before .before .before .before .before .before .before .loop .inv in
     let fits = due-fits bs t (start .args .self) (start .args .row .now) h row s (start .pre .3) in
-    let test = sym (c .before .before .before .before .before .before .before .before .before .before .takes .ensures) ∙ c .before .before .before .before .before .before .before .before .before .if1 .left in
+    let test = sym (c .before .before .before .before .before .before .before .before .before .takes .ensures) ∙ c .before .before .before .before .before .before .before .before .if1 .left in
     let pass = c .before .before .pass in
     let v = c .before .before .before .before .due .result .0 in
     let point = c .before .before .before .before .due .ensures in
     let clock : pass .result .clock .0 ≡ h .clock .0 + (v - h .clock .0) = ap (λ (x : Booth). x .clock .0) (pass .ensures .0) in
-    let cap : h .clock .0 + (v - h .clock .0) ≤ due (h .line .promise) t = omega (arith, point, s .cap) in (
+    let cap : h .clock .0 + (v - h .clock .0) ≤ due (h .promise) t = omega (arith, point, s .cap) in (
       record {
         fit = subst (Fit bs) (sym (pass .ensures .0)) (fit-moved bs h (h .clock .0 + (v - h .clock .0)) (s .fit));
-        line = ap (λ (x : Booth). x .line) (pass .ensures .0) ∙ s .line;
-        number = ap (λ (x : Booth). x .number) (pass .ensures .0) ∙ s .number;
+        stays = record {
+          number = ap (λ (x : Booth). x .number) (pass .ensures .0) ∙ s .stays .number;
+          promise = ap (λ (x : Booth). x .promise) (pass .ensures .0) ∙ s .stays .promise;
+          tasks = ap (λ (x : Booth). x .tasks) (pass .ensures .0) ∙ s .stays .tasks;
+        };
         grown = omega (arith, clock, s .grown);
-        cap = rw clock (subst (λ (l : Line). h .clock .0 + (v - h .clock .0) ≤ due (l .promise) t) (s .line) cap);
+        cap = rw clock (subst (λ (p : Promise). h .clock .0 + (v - h .clock .0) ≤ due p t) (s .stays .promise) cap);
       },
       (
-        ap (λ (x : Booth). shown bs x (pass .last .1 .0)) (pass .ensures .0)
-            ∙ ap (shown bs (clockAt h (h .clock .0 + (v - h .clock .0)))) (pass .ensures .1)
-            ∙ settled-free bs t (start .args .self) (start .args .row .now) h row s (fits .0) (start .pre .0) (start .pre .1) (start .pre .4) test (c .before .before .before .before .before .before .before .if2 .taken) v point,
+        λ l q.
+            ap (λ (x : Booth). shown l bs x (pass .last .1 .0)) (pass .ensures .0)
+            ∙ ap (shown l bs (clockAt h (h .clock .0 + (v - h .clock .0)))) (pass .ensures .1)
+            ∙ settled-free bs t (start .args .self) (start .args .row .now) h row s (fits .0) (start .pre .0) (start .pre .1) (start .pre .4) test l q (c .before .before .before .before .before .before .if2 .taken) v point,
         ap (λ u. drop u (pass .last .1 .0)) clock
             ∙ ap (drop (h .clock .0 + (v - h .clock .0))) (pass .ensures .1)
             ∙ behind-moved bs t (start .args .self) (start .args .row .now) h row s (fits .0) v
@@ -137,9 +140,9 @@ returns-2 c =
     let s = c .before .before .before .before .loop .inv in
     let fits = due-fits bs t (start .args .self) (start .args .row .now) h row s (start .pre .3) in
     let test = sym (c .before .before .before .takes .ensures) ∙ c .before .before .if1 .left in (
-      record { fit = s .fit; line = s .line; number = s .number; grown = s .grown; cap = subst (λ (l : Line). h .clock .0 ≤ due (l .promise) t) (s .line) (s .cap) },
+      record { fit = s .fit; stays = s .stays; grown = s .grown; cap = subst (λ (p : Promise). h .clock .0 ≤ due p t) (s .stays .promise) (s .cap) },
       (
-        settled-busy bs t (start .args .self) (start .args .row .now) h row s (fits .0) (start .pre .0) (start .pre .1) (start .pre .4) test (c .if2 .left),
+        λ l q. settled-busy bs t (start .args .self) (start .args .row .now) h row s (fits .0) (start .pre .0) (start .pre .1) (start .pre .4) test l q (c .if2 .left),
         s .behind,
       ),
     )

@@ -2,9 +2,8 @@
 use mathlib.Core.Path.{_≡_, refl, ap, _∙_}
 use Prim.Native.Nat.{_<_}
 use native.Mathlib.Omega.{arith}
-use Rattle.rules.specs.ArrivalLog.{entryAt}
 use Rattle.rules.specs.Due.{due}
-use Rattle.booth.specs.Shown.{lookingAt, Looked, Waits, Next}
+use Rattle.booth.specs.BoothHeld.{lookingAt, Looked, Waits, Next}
 use borrow.Author.Needs.{needs}
 use Rattle.booth.proofs.Booth.look.Statement.{statement}
 use Rattle.booth.proofs.Booth.look.Tie as tie
@@ -12,7 +11,6 @@ use Rattle.booth.proofs.Booth.look.Reads as reads
 use Rattle.booth.proofs.Booth.look.Lts as lts
 use Rattle.booth.proofs.next_of.Reads as next-of-reads
 use Rattle.rules.proofs.due.Reads as due-reads
-use Rattle.base.proofs.number32.Reads as number32-reads
 
 next-of-requires : tie.Need-next-of-requires
 next-of-requires c κs = search needs
@@ -28,27 +26,24 @@ returns c =
       same = found .same;
     }
 
-add-number32 : tie.Need-add-number32
-add-number32 c = search needs
-
-number32-requires : tie.Need-number32-requires
-number32-requires c κs = search needs
+entry-tick-requires : tie.Need-entry-tick-requires
+entry-tick-requires c κs = search needs
 
 due-requires : tie.Need-due-requires
 due-requires c κs = search needs
 
 returns-2 : tie.Need-returns-2
-unfolding lookingAt entryAt
+unfolding lookingAt
 returns-2 c =
-    let start = c .before .before .before .before .before .before .before in
-    let found = c .before .before .before .before .before .next-of .ensures in
-    let tick = c .before .before .before .number32 .ensures in
+    let start = c .before .before .before .before .before .before in
+    let found = c .before .before .before .before .next-of .ensures in
+    let tick = c .before .before .entry-tick .ensures in
     record {
       is = refl;
       waits = record {
         place = found .place;
-        none = λ h. absurd (omega (arith, c .before .before .before .before .if1 .left));
-        next = λ h. record { booth = found .here h; tick = tick; point = c .due .ensures ∙ ap (due (start .args .self .line .promise)) tick };
+        none = λ h. absurd (omega (arith, c .before .before .before .if1 .left));
+        next = λ h. record { booth = found .here h; tick = tick; point = c .due .ensures ∙ ap (due (start .args .self .promise)) tick };
       };
       later = found .later;
       same = found .same;
@@ -57,4 +52,4 @@ returns-2 c =
 pub look-spec : {M : Type 1} → statement M
 look-spec =
     tie.close
-    (tie.spec next-of-requires returns add-number32 number32-requires due-requires returns-2)
+    (tie.spec next-of-requires returns entry-tick-requires due-requires returns-2)

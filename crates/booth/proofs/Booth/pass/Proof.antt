@@ -5,8 +5,8 @@ use Prim.Native.Nat.{ℕ, _+_, _-_, _≤_, _<_}
 use native.Mathlib.Omega.{arith}
 use lib.ListN.{length, replicate}
 use borrow.Rule.Slice.PartMut.{mid-len}
-use Rattle.booth.specs.Shown.{clockAt, lengthened}
-use Rattle.booth.proofs.Rows.{written-none, part-silenced}
+use Rattle.booth.specs.BoothHeld.{clockAt, lengthened}
+use Rattle.booth.proofs.RowWritten.{written-none, part-silenced}
 use borrow.Author.Needs.{needs}
 use Rattle.booth.proofs.Booth.pass.Statement.{statement}
 use Rattle.booth.proofs.Booth.pass.Tie as tie

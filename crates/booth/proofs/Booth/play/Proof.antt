@@ -5,7 +5,7 @@ use native.Mathlib.Omega.{arith}
 use lib.ListN.{length, getD, set}
 use lib.Seq.{drop-set-lt}
 use Rattle.booth.specs.declared.Booth.{Booth}
-use Rattle.booth.specs.Shown.{Steady}
+use Rattle.booth.specs.BoothHeld.{Steady}
 use Rattle.booth.proofs.Demand.{First}
 use Rattle.booth.proofs.Working.{worked, held-first, shown-worked, after-play, first-stays}
 use borrow.Author.Needs.{needs}
@@ -69,7 +69,7 @@ returns c =
     let s = start .pre .0 in
     let f = first-here h k s (start .pre .1) (start .pre .2) in (
       after-play h s k f (c .first-task .result) (c .first-task .ensures),
-      (λ bs. shown-worked h s k f bs row (c .first-task .result) (start .pre .3), drop-set-lt (h .clock .0 + 1) row (h .clock .0) k (omega arith)),
+      (λ l bs. shown-worked h s k f l bs row (c .first-task .result) (start .pre .3), drop-set-lt (h .clock .0 + 1) row (h .clock .0) k (omega arith)),
     )
 
 same-length-2 : tie.Need-same-length-2
@@ -85,7 +85,7 @@ returns-2 c =
     let s = start .pre .0 in
     let f = first-here h k s (start .pre .1) (start .pre .2) in (
       after-play h s k f (h .first) (sym (start .pre .2) ∙ first-stays h s k f (omega (arith, c .if1 .left))),
-      (λ bs. shown-worked h s k f bs row (h .first) (start .pre .3), drop-set-lt (h .clock .0 + 1) row (h .clock .0) k (omega arith)),
+      (λ l bs. shown-worked h s k f l bs row (h .first) (start .pre .3), drop-set-lt (h .clock .0 + 1) row (h .clock .0) k (omega arith)),
     )
 
 pub play-spec : {M : Type 1} → statement M

@@ -2,7 +2,7 @@
 use mathlib.Core.Path.{_≡_, refl, sym}
 use native.Mathlib.Omega.{arith}
 use borrow.Author.Tests.{lt-leb, le-leb, eq-eqb, ne-eqb}
-use Rattle.booth.specs.Shown.{takesNext}
+use Rattle.booth.specs.BoothHeld.{takesNext}
 use Rattle.booth.proofs.Booth.takes.Statement.{statement}
 use Rattle.booth.proofs.Booth.takes.Tie as tie
 use Rattle.booth.proofs.Booth.takes.Reads as reads

@@ -11,10 +11,12 @@ use Rattle.rules.specs.Moves.{noDemand}
 use Rattle.rules.specs.Session.{freshBooth}
 use Rattle.rules.specs.Values.{lineHeld}
 use Rattle.rules.proofs.Held.{zeros}
+use Rattle.rules.specs.InRange.{Sound}
 use Rattle.table.proofs.Test.{fit-sound, fit-short}
 use Rattle.table.specs.Fit.{FitLine}
+use Rattle.arrivals.specs.Places.{waitingAt, Place, WholeLog}
 use Rattle.booth.specs.declared.Booth.{Booth as HeldBooth}
-use Rattle.booth.specs.Shown.{waitingAt, firstOf, shown, Log, Place, Fit, lookingAt, Looked}
+use Rattle.booth.specs.BoothHeld.{firstOf, shown, Fit, lookingAt, Looked}
 
 abbrev silent : List ℕ
 silent = 0 ∷ 0 ∷ 0 ∷ 0 ∷ 0 ∷ 0 ∷ 0 ∷ 0 ∷ []
@@ -24,13 +26,14 @@ abbrev pub unopened : ℕ → HeldLine → HeldBooth
 unopened number line =
     record {
       number = number;
-      line = line;
-      clock = record { 0 = 0 };
+      tasks = line .tasks;
+      demand = silent;
+      first = 8;
       at = 9;
+      promise = line .promise;
+      clock = record { 0 = 0 };
       tick = record { 0 = 4294967295 };
       point = record { 0 = 0 };
-      first = 8;
-      demand = silent;
     }
 
 take-zeros : (n m : ℕ) → n ≤ m → take {A = ℕ} n (replicate m 0) ≡ replicate n 0
@@ -42,15 +45,19 @@ no-first : 8 ≡ firstOf silent
 unfolding firstOf noDemand
 no-first = refl
 
-module _ (bs : List ℕ) (number : ℕ) (line : HeldLine) (log : Log bs) (fit : FitLine line)
+module _ (bs : List ℕ) (number : ℕ) (line : HeldLine) (log : WholeLog bs) (fit : FitLine line)
     (own : (at : ℕ) → Place bs at → at < length bs → (entryAt bs at) .booth ≡ number → (entryAt bs at) .task < line .tasks) (r : HeldBooth) (looked : Looked bs (unopened number line) 9 r) where
   kept-number : r .number ≡ number
   unfolding lookingAt
   kept-number = ap (λ h. h .number) (looked .is)
 
-  kept-line : r .line ≡ line
+  kept-promise : r .promise ≡ line .promise
   unfolding lookingAt
-  kept-line = ap (λ h. h .line) (looked .is)
+  kept-promise = ap (λ h. h .promise) (looked .is)
+
+  kept-tasks : r .tasks ≡ line .tasks
+  unfolding lookingAt
+  kept-tasks = ap (λ h. h .tasks) (looked .is)
 
   kept-demand : r .demand ≡ silent
   unfolding lookingAt
@@ -64,32 +71,33 @@ module _ (bs : List ℕ) (number : ℕ) (line : HeldLine) (log : Log bs) (fit : 
   unfolding lookingAt
   kept-clock = ap (λ h. h .clock .0) (looked .is)
 
-  pub open-fit : Fit bs r × (r .number ≡ number) × (r .line ≡ line)
+  pub open-fit : Fit bs r × (r .number ≡ number) × (r .promise ≡ line .promise) × (r .tasks ≡ line .tasks)
   open-fit = (
     record {
       steady = record {
-        sound = subst (λ l. Rattle.table.specs.Fit.Sounds (l .promise)) (sym kept-line) (record { period = (fit-sound _ fit) .period; small = fit-short _ fit; allowance = (fit-sound _ fit) .allowance; within = (fit-sound _ fit) .within });
-        tasks = subst (λ l. l .tasks ≤ 8) (sym kept-line) (fit .tasks);
+        sound = subst Sound (sym kept-promise) (fit-sound _ fit);
+        short = subst (λ p. p .period ≤ 10000) (sym kept-promise) (fit-short _ fit);
+        tasks = subst (λ n. n ≤ 8) (sym kept-tasks) (fit .tasks);
         eight = ap length kept-demand;
         rest = λ k h. ap (λ ds. getD ds k 0) kept-demand ∙ zeros 8 k;
         first = kept-first ∙ no-first ∙ ap firstOf (sym kept-demand);
       };
       waits = looked .waits;
-      own = λ at p l e. subst (λ x. (entryAt bs at) .task < x .tasks) (sym kept-line) (own at p l (e ∙ kept-number));
+      own = λ at p l e. subst (λ n. (entryAt bs at) .task < n) (sym kept-tasks) (own at p l (e ∙ kept-number));
       room = λ k. omega (arith, ap (λ ds. getD ds k 0) kept-demand ∙ zeros 8 k, log .short);
     },
     kept-number,
-    kept-line,
+    kept-promise,
+    kept-tasks,
   )
 
-  pub open-fresh : (row : List ℕ) → shown bs r row ≡ freshBooth (lineHeld line) (waitingAt bs number 9)
+  pub open-fresh : (row : List ℕ) → shown (lineHeld line) bs r row ≡ freshBooth (lineHeld line) (waitingAt bs number 9)
   unfolding shown freshBooth lineHeld
   open-fresh row =
       let tasks : length (take (line .tasks) (line .longest)) ≡ line .tasks = length-take-le (line .tasks) (line .longest) (omega (arith, fit .tasks, fit .eight)) in
-      let left : take (r .line .tasks) (r .demand) ≡ replicate (length (take (line .tasks) (line .longest))) 0 =
-      ap (λ l. take (l .tasks) (r .demand)) kept-line ∙ ap (take (line .tasks)) kept-demand ∙ take-zeros (line .tasks) 8 (fit .tasks) ∙ ap (λ n. replicate n 0) (sym tasks) in
+      let left : take (r .tasks) (r .demand) ≡ replicate (length (take (line .tasks) (line .longest))) 0 =
+      ap (λ n. take n (r .demand)) kept-tasks ∙ ap (take (line .tasks)) kept-demand ∙ take-zeros (line .tasks) 8 (fit .tasks) ∙ ap (λ n. replicate n 0) (sym tasks) in
       let waiting : waitingAt bs (r .number) (r .at) ≡ waitingAt bs number 9 = ap (λ n. waitingAt bs n (r .at)) kept-number ∙ looked .same in
-      ap (λ l. record { line = lineHeld l; u = r .clock .0; left = take (r .line .tasks) (r .demand); waiting = waitingAt bs (r .number) (r .at); row = take (r .clock .0) row }) kept-line
-      ∙ ap (λ u. record { line = lineHeld line; u = u; left = take (r .line .tasks) (r .demand); waiting = waitingAt bs (r .number) (r .at); row = take u row }) kept-clock
+      ap (λ u. record { line = lineHeld line; u = u; left = take (r .tasks) (r .demand); waiting = waitingAt bs (r .number) (r .at); row = take u row }) kept-clock
       ∙ ap (λ x. record { line = lineHeld line; u = 0; left = x; waiting = waitingAt bs (r .number) (r .at); row = [] }) left
       ∙ ap (λ x. record { line = lineHeld line; u = 0; left = replicate (length (take (line .tasks) (line .longest))) 0; waiting = x; row = [] }) waiting

@@ -6,7 +6,7 @@ use native.Mathlib.Nat.{add-zero}
 use native.Mathlib.Omega.{arith}
 use lib.ListN.{length, take, drop, set, replicate, length-append, length-take, length-drop, length-replicate, take-append-drop}
 use lib.Seq.{take-at, drop-at, drop-drop, length-take-le}
-use Rattle.booth.specs.Shown.{lengthened}
+use Rattle.booth.specs.BoothHeld.{lengthened}
 
 -- with no tick written a row stays
 pub written-none : (row : List ℕ) (u : ℕ) → lengthened row u [] ≡ row
