@@ -43,11 +43,13 @@ use Rattle.session.specs.Running.{nowhere, Same, Alike, Running, OpenedT
 use Rattle.session.proofs.Engine.{shown-same, clocks-are, worked-are}
 
 -- an accepted answer with these figures
-abbrev pub made : ℕ → List ℕ → List ℕ → ℕ → SessionAnswer
-made n clocks worked idle = record { verdict = record { refused = Nothing; refusal = record { number = 0; place = 0 } }; booths = n; clocks = clocks; worked = worked; idle = idle }
+abbrev pub made : ℕ → ℕ → List ℕ → List ℕ → ℕ → SessionAnswer
+made H n clocks worked idle =
+    record { verdict = record { refused = Nothing; refusal = record { number = 0; place = 0 } }; horizon = H; booths = n; clocks = clocks; worked = worked; idle = idle }
 
-made-same : {n m : ℕ} {c d w v : List ℕ} {i j : ℕ} → n ≡ m → c ≡ d → w ≡ v → i ≡ j → made n c w i ≡ made m d v j
-made-same {n} {m} {c} {d} {w} {v} {i} {j} p q r s = ap (λ x. made x c w i) p ∙ ap (λ x. made m x w i) q ∙ ap (λ x. made m d x i) r ∙ ap (λ x. made m d v x) s
+made-same : {n m : ℕ} {c d w v : List ℕ} {i j : ℕ} (H : ℕ) → n ≡ m → c ≡ d → w ≡ v → i ≡ j → made H n c w i ≡ made H m d v j
+made-same {n} {m} {c} {d} {w} {v} {i} {j} H p q r s =
+    ap (λ x. made H x c w i) p ∙ ap (λ x. made H m x w i) q ∙ ap (λ x. made H m d x i) r ∙ ap (λ x. made H m d v x) s
 
 module _ (table : Table) (bs wall own : List ℕ) (H : ℕ) (p : Playable table bs wall own H) (hs : List HeldBooth) (o : OpenedTo (table .booths) (table .lines) bs hs) where
   n : ℕ
@@ -147,9 +149,9 @@ module _ (table : Table) (bs wall own : List ℕ) (H : ℕ) (p : Playable table 
       booths-is =
           sym (length-map ((settledAt H (linesHeld table) (entriesOf bs)) .booths) (λ b. b .u) ∙ length-booths (linesHeld table) (entriesOf bs) H ∙ lines-in table (p .opening .fit))
 
-      pub answer-is : made (table .booths) clocks (s .worked) (s .idle) ≡ answered (played (linesHeld table) (logOf H bs) wall own)
+      pub answer-is : made H (table .booths) clocks (s .worked) (s .idle) ≡ answered (played (linesHeld table) (logOf H bs) wall own)
       unfolding answered played logOf accepted refusal
-      answer-is = made-same booths-is clocks-is worked-is idle-is
+      answer-is = made-same H booths-is clocks-is worked-is idle-is
 
       pub wall-is : wall₁ ≡ (played (linesHeld table) (logOf H bs) wall own) .wall
       unfolding played logOf

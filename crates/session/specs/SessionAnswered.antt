@@ -12,6 +12,7 @@ unfoldable pub answered : Outcome → SessionAnswer
 answered o =
     record {
       verdict = o .verdict;
+      horizon = o .ticks;
       booths = length (o .clocks);
       clocks = padded booths-allowed 0 (o .clocks);
       worked = padded booths-allowed 0 (o .worked);
@@ -20,4 +21,4 @@ answered o =
 
 -- a refusal: every count is 0
 unfoldable pub nothingAnswered : Verdict → SessionAnswer
-nothingAnswered v = record { verdict = v; booths = 0; clocks = padded booths-allowed 0 []; worked = padded booths-allowed 0 []; idle = 0 }
+nothingAnswered v = record { verdict = v; horizon = 0; booths = 0; clocks = padded booths-allowed 0 []; worked = padded booths-allowed 0 []; idle = 0 }

@@ -16,9 +16,10 @@ use rules::Table;
 use rules::Verdict;
 use rules::WallTick;
 
-// What a session answers: the verdict, then for each booth its final own clock and its worked ticks, and the idle ticks.
+// What a session answers: the verdict and the wall ticks played, then for each booth its final own clock and its worked ticks, and the idle ticks.
 pub struct SessionAnswer {
     pub verdict: Verdict,
+    pub horizon: u32,
     pub booths: usize,
     pub clocks: [u32; BOOTHS_ALLOWED],
     pub worked: [u32; BOOTHS_ALLOWED],
@@ -180,6 +181,7 @@ fn play_all(table: Table, log: &[u8], wall: &mut [u8], own: &mut [u8], h: usize)
                 place: 0,
             },
         },
+        horizon: h as u32,
         booths: n,
         clocks,
         worked,
@@ -193,6 +195,7 @@ fn nothing_done(verdict: Verdict) -> SessionAnswer
 {
     SessionAnswer {
         verdict,
+        horizon: 0,
         booths: 0,
         clocks: [0; BOOTHS_ALLOWED],
         worked: [0; BOOTHS_ALLOWED],

@@ -10,7 +10,6 @@ use Rattle.rules.specs.declared.Refused.the-variants.{Nothing, TheTable, TheLog
 use Rattle.base.specs.Bytes.{written}
 use Rattle.base.specs.Refusals.{refused, refusal}
 use Rattle.rules.specs.BoothTable.{booths-allowed}
-use Rattle.rules.specs.ArrivalLog.{logH}
 use Rattle.rules.specs.Session.{Outcome, session}
 use Rattle.rules.specs.RowBack.{rowBack}
 use Rattle.rules.specs.Values.{padded}
@@ -37,9 +36,10 @@ lines-held (suc i) H clocks worked own =
     ∙ ap (λ u. page.boothLines i H clocks worked own ++ page.boothLine i u (getD (padded 8 0 worked) i 0) ((rowBack own H i u) .part)) (getD-held clocks (8 - length clocks) i)
     ∙ ap (λ w. page.boothLines i H clocks worked own ++ page.boothLine i (getD clocks i 0) w ((rowBack own H i (getD clocks i 0)) .part)) (getD-held worked (8 - length worked) i)
 
-pub answer-prints : (H : ℕ) (o : Outcome) → answerText H (answered o) (o .wall) (o .own) ≡ page.admittedText H o
+pub answer-prints : (o : Outcome) → answerText (o .ticks) (answered o) (o .wall) (o .own) ≡ page.admittedText o
 unfolding answerText answered page.admittedText
-answer-prints H o =
+answer-prints o =
+    let H = o .ticks in
     ap (λ l. page.numberLine page.word-admitted (length (o .clocks)) ++ (page.recordLine page.word-wall (take H (o .wall)) ++ (l ++ page.numberLine page.word-idle (o .idle))))
     (lines-held (length (o .clocks)) H (o .clocks) (o .worked) (o .own))
 
@@ -84,7 +84,7 @@ unfoldable pub desk-outcome : List ℕ → List ℕ → Outcome
 desk-outcome table log = session table log (replicate page.most-ticks 0) (replicate (booths-allowed * page.most-ticks) 0)
 
 module _ (table log : List ℕ) where
-  refused-prints : (w : Refused) (what : List ℕ) → ((o : Outcome) → page.outcomeText w (logH log) o ≡ page.refusedLine what (o .verdict .refusal))
+  refused-prints : (w : Refused) (what : List ℕ) → ((o : Outcome) → page.outcomeText w o ≡ page.refusedLine what (o .verdict .refusal))
       → (a : SessionAnswer) → a ≡ answered (desk-outcome table log) → a .verdict .refused ≡ w → page.refusedLine what (a .verdict .refusal) ≡ page.sessionText table log
   unfolding answered page.sessionText desk-outcome
   refused-prints w what opens a e h =
@@ -92,7 +92,7 @@ module _ (table log : List ℕ) where
       let same : o .verdict ≡ a .verdict = sym (ap (λ x. x .verdict) e) in
       ap (λ v. page.refusedLine what (v .refusal)) (sym same)
       ∙ sym (opens o)
-      ∙ ap (λ z. page.outcomeText z (logH log) o) (sym (ap (λ v. v .refused) same ∙ h))
+      ∙ ap (λ z. page.outcomeText z o) (sym (ap (λ v. v .refused) same ∙ h))
 
   pub table-prints : (a : SessionAnswer) → a ≡ answered (desk-outcome table log) → a .verdict .refused ≡ TheTable → page.refusedLine page.word-table (a .verdict .refusal) ≡ page.sessionText table log
   unfolding page.outcomeText
@@ -107,22 +107,22 @@ module _ (table log : List ℕ) where
   call-prints = refused-prints TheCall page.word-session (λ o. refl)
 
   pub session-prints : (a : SessionAnswer) (wall own : List ℕ) → a ≡ answered (desk-outcome table log) → a .verdict .refused ≡ Nothing
-      → wall ≡ (desk-outcome table log) .wall → own ≡ (desk-outcome table log) .own → answerText (logH log) a wall own ≡ page.sessionText table log
+      → wall ≡ (desk-outcome table log) .wall → own ≡ (desk-outcome table log) .own → answerText (a .horizon) a wall own ≡ page.sessionText table log
   unfolding answered page.outcomeText page.sessionText desk-outcome
   session-prints a wall own e h w r =
       let o = desk-outcome table log in
       let same : o .verdict ≡ a .verdict = sym (ap (λ x. x .verdict) e) in
-      ap (λ x. answerText (logH log) x wall own) e
-      ∙ ap (λ l. answerText (logH log) (answered o) l own) w
-      ∙ ap (λ l. answerText (logH log) (answered o) (o .wall) l) r
-      ∙ answer-prints (logH log) o
-      ∙ ap (λ z. page.outcomeText z (logH log) o) (sym (ap (λ v. v .refused) same ∙ h))
+      ap (λ x. answerText (x .horizon) x wall own) e
+      ∙ ap (λ l. answerText (o .ticks) (answered o) l own) w
+      ∙ ap (λ l. answerText (o .ticks) (answered o) (o .wall) l) r
+      ∙ answer-prints o
+      ∙ ap (λ z. page.outcomeText z o) (sym (ap (λ v. v .refused) same ∙ h))
 
   -- what the text of an accepted session asks
-  pub answer-fits : (a : SessionAnswer) → a ≡ answered (desk-outcome table log) → a .verdict .refused ≡ Nothing → (9 ≤ length log) × (logH log ≤ page.most-ticks) × (a .booths ≤ booths-allowed)
+  pub answer-fits : (a : SessionAnswer) → a ≡ answered (desk-outcome table log) → a .verdict .refused ≡ Nothing → (a .horizon ≤ page.most-ticks) × (a .booths ≤ booths-allowed)
   unfolding answered desk-outcome
   answer-fits a e h =
       let o = desk-outcome table log in
       let same : o .verdict ≡ a .verdict = sym (ap (λ x. x .verdict) e) in
       let f = fits table log (replicate page.most-ticks 0) (replicate (booths-allowed * page.most-ticks) 0) (ap (λ v. v .refused) same ∙ h) in
-      (f .whole, omega (arith, f .short, length-replicate {A = ℕ} page.most-ticks 0), omega (arith, f .few, ap (λ x. x .booths) e))
+      (omega (arith, f .short, ap (λ x. x .horizon) e, length-replicate {A = ℕ} page.most-ticks 0), omega (arith, f .few, ap (λ x. x .booths) e))

@@ -13,19 +13,17 @@ use Rattle.rules.specs.declared.Verdict.{Verdict}
 use Rattle.base.specs.declared.Refusal.{Refusal}
 use Rattle.rules.specs.Verdicts.{refusedAs}
 use Rattle.rules.specs.BoothTable.{Line}
-use Rattle.rules.specs.ArrivalLog.{Log, logH}
+use Rattle.rules.specs.ArrivalLog.{Log}
 use Rattle.rules.specs.Files.{TwoFiles, bothTaken, oneRefused, readFiles}
 use Rattle.rules.proofs.TwoFiles.{one-refused, read-in-turn}
 use Rattle.rules.specs.Session.{Outcome, settledAt, nothingDone, played, session}
 use Rattle.laws.proofs.Run.{length-booths}
 use Rattle.laws.proofs.Admitted.{table-lines}
-use Rattle.laws.proofs.Readers.{read-log}
 use Rattle.session.proofs.ByCases.{files-refused, wall-short, own-short, plays}
 
--- a session that was not refused had a whole log, fits the wall record, and has at most eight booths
-pub record Fits (log wall : List ℕ) (o : Outcome) : Type 0 where
-  pub whole : 9 ≤ length log
-  pub short : logH log ≤ length wall
+-- a session that was not refused fits the wall record, and has at most eight booths
+pub record Fits (wall : List ℕ) (o : Outcome) : Type 0 where
+  pub short : o .ticks ≤ length wall
   pub few : length (o .clocks) ≤ 8
 
 module _ (table log wall own : List ℕ) where
@@ -43,16 +41,14 @@ module _ (table log wall own : List ℕ) where
 
   module _ (h : Given Nothing) where
     Fitting : Type 0
-    Fitting = Fits log wall (session table log wall own)
+    Fitting = Fits wall (session table log wall own)
 
     played-fits : (ls : List Line) (l : Log) → readFiles table log ≡ bothTaken ls l → l .horizon ≤ length wall → length ls * l .horizon ≤ length own → Fitting
     unfolding played Fitting
     played-fits ls l q w o =
         let (t, p) = read-in-turn table log ls l q in
-        let known = read-log ls log l p in
         record {
-          whole = omega (arith, known .whole);
-          short = omega (arith, known .ticks, w);
+          short = omega (arith, ap (λ o. o .ticks) (plays table log wall own ls l q w o), w);
           few =
               omega (
                 arith,
@@ -63,7 +59,7 @@ module _ (table log wall own : List ℕ) where
               );
         }
 
-    pub fits : Fits log wall (session table log wall own)
+    pub fits : Fits wall (session table log wall own)
     unfolding Fitting
     fits = go (readFiles table log) refl
       where

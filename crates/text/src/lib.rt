@@ -66,7 +66,7 @@ fn session_text(out: &mut [u8], table: &[u8], log: &[u8]) -> usize
         Refused::TheLog => refused_line(out, b"log ", refusal),
         Refused::TheCall => refused_line(out, b"session ", refusal),
         Refused::Nothing => {
-            let h = base::number32(log, 5) as usize;
+            let h = answer.horizon as usize;
             admitted_text(out, answer, &wall, &own, h)
         }
     }

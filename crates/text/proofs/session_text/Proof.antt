@@ -3,7 +3,6 @@ use mathlib.Core.Path.{_≡_, ap, _∙_, subst}
 use native.Mathlib.Omega.{arith}
 use Prim.Native.Nat.{ℕ}
 use lib.ListN.{length, length-replicate}
-use Rattle.rules.specs.ArrivalLog.{logH}
 use Rattle.rules.specs.Desk as page
 use Rattle.session.specs.SessionAnswered.{answered}
 use Rattle.printing.specs.Put.{Put}
@@ -52,14 +51,6 @@ refused-line-requires-3 c κs = search needs
 enum-told-4 : tie.Need-enum-told-4
 enum-told-4 c = search needs
 
-number32-requires : tie.Need-number32-requires
-unfolding desk-outcome
-number32-requires c κs =
-    let st = c .before .before .before .before .before .before .before .before .before .before .before .before in
-    let s = c .before .before .before .before .before .before .session in
-    let is : s .result ≡ answered (desk-outcome (st .args .table .now) (st .args .log .now)) = s .ensures .0 in
-    (answer-fits (st .args .table .now) (st .args .log .now) (s .result) is (c .enum-told4 .given .1)) .0
-
 cast-h : tie.Need-cast-h
 cast-h c = search needs
 
@@ -70,15 +61,14 @@ slice-aggregate-admitted-text-2 : tie.Need-slice-aggregate-admitted-text-2
 slice-aggregate-admitted-text-2 c = search needs
 
 admitted-text-requires : tie.Need-admitted-text-requires
-unfolding desk-outcome logH
+unfolding desk-outcome
 admitted-text-requires c κs =
     let st = c .before .before .before .before .before .before .before .before .before .before .before .before .before .before .before .before in
     let s = c .before .before .before .before .before .before .before .before .before .before .session in
     let is : s .result ≡ answered (desk-outcome (st .args .table .now) (st .args .log .now)) = s .ensures .0 in
     let fit = answer-fits (st .args .table .now) (st .args .log .now) (s .result) is (c .before .before .before .before .enum-told4 .given .1) in
-    let h : c .before .before .before .number32 .result ≡ logH (st .args .log .now) = c .before .before .before .number32 .ensures in
     let long : length (s .last .1 .1 .0) ≡ page.most-ticks = s .kept .1 .1 .0 ∙ length-replicate {A = ℕ} page.most-ticks 0 in
-    (fit .2, omega (arith, fit .1, h), omega (arith, fit .1, h, long), st .pre)
+    (fit .1, omega (arith, fit .0), omega (arith, fit .0, long), st .pre)
 
 same-length : tie.Need-same-length
 same-length c = search needs
@@ -120,16 +110,14 @@ same-length-4 : tie.Need-same-length-4
 same-length-4 c = search needs
 
 returns-4 : tie.Need-returns-4
-unfolding desk-outcome logH
+unfolding desk-outcome
 returns-4 c =
     let st = c .before .before .before .before .before .before .before .before .before .before .before .before .before .before .before .before .before .before .before in
     let s = c .before .before .before .before .before .before .before .before .before .before .before .before .before .session in
     let text = c .before .before .admitted-text in
     let is : s .result ≡ answered (desk-outcome (st .args .table .now) (st .args .log .now)) = s .ensures .0 in
-    let h : c .before .before .before .before .before .before .number32 .result ≡ logH (st .args .log .now) = c .before .before .before .before .before .before .number32 .ensures in
     subst (λ l. Put 0 l (st .args .out .now) (text .last .0) (text .result))
-    (ap (λ n. answerText n (s .result) (s .last .1 .1 .0) (s .last .1 .1 .1 .0)) h
-    ∙ session-prints (st .args .table .now) (st .args .log .now) (s .result) (s .last .1 .1 .0) (s .last .1 .1 .1 .0) is (c .before .before .before .before .before .before .before .enum-told4 .given .1) (s .ensures .1 .0) (s .ensures .1 .1)) (text .ensures)
+    (session-prints (st .args .table .now) (st .args .log .now) (s .result) (s .last .1 .1 .0) (s .last .1 .1 .1 .0) is (c .before .before .before .before .before .before .before .enum-told4 .given .1) (s .ensures .1 .0) (s .ensures .1 .1)) (text .ensures)
 
 pub session-text-spec : {M : Type 1} → statement M
 session-text-spec =
@@ -148,7 +136,6 @@ session-text-spec =
     slice-aggregate-refused-line-3
     refused-line-requires-3
     enum-told-4
-    number32-requires
     cast-h
     slice-aggregate-admitted-text
     slice-aggregate-admitted-text-2
