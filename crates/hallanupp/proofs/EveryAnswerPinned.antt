@@ -9,7 +9,7 @@ use Rattle.rules.specs.Session as page
 use Rattle.rules.specs.SoloPart.{askSolo}
 use Rattle.rules.specs.RowBack.{rowBack}
 use Rattle.rules.specs.Panel as shares
-use Rattle.session.specs.Answer.{answered}
+use Rattle.session.specs.AnsweredSession.{answered}
 use Rattle.text.specs.Answer.{textLength, withText}
 use Rattle.hallanupp.specs.OneReply.{Lives, Call, Asks, Tells, Reply, Meets, Replies, OneReply}
 use Rattle.rules.specs.Files.{filesVerdict}

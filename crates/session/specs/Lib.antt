@@ -1,2 +1,2 @@
-pub mod Answer
+pub mod AnsweredSession
 pub mod Running

@@ -5,7 +5,7 @@ use Prim.Native.Nat.{ℕ}
 use lib.ListN.{length, length-replicate}
 use Rattle.rules.specs.ArrivalLog.{logH}
 use Rattle.rules.specs.Desk as page
-use Rattle.session.specs.Answer.{answered}
+use Rattle.session.specs.AnsweredSession.{answered}
 use Rattle.printing.specs.Put.{Put}
 use Rattle.text.specs.Answer.{answerText}
 use Rattle.text.proofs.Printed.{desk-outcome, answer-fits, table-prints, log-prints, call-prints, session-prints}
