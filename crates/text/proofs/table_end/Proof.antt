@@ -3,7 +3,7 @@ use mathlib.Core.Path.{sym, ap, _∙_}
 use native.Mathlib.Nat.{min-eq-left, min-eq-right}
 use Prim.Native.Nat.{_+_}
 use native.Mathlib.Omega.{arith}
-use Rattle.rules.specs.BoothTable.{tableN}
+use Rattle.rules.specs.FileHead.{headN}
 use Rattle.rules.specs.Desk as page
 use borrow.Author.Needs.{needs}
 use Rattle.text.proofs.table_end.Statement.{statement}
@@ -23,11 +23,11 @@ add-end : tie.Need-add-end
 add-end c = search needs
 
 returns-2 : tie.Need-returns-2
-unfolding page.tableEnd tableN
+unfolding page.tableEnd headN
 returns-2 c = (ap (λ k. 3 + k) (c .before .number16 .ensures .0) ∙ sym (min-eq-right (omega arith)), omega arith)
 
 returns-3 : tie.Need-returns-3
-unfolding page.tableEnd tableN
+unfolding page.tableEnd headN
 returns-3 c = (sym (min-eq-left (omega arith)), omega arith)
 
 pub table-end-spec : {M : Type 1} → statement M
