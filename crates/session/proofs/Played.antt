@@ -36,11 +36,11 @@ use Rattle.laws.proofs.Answered.{answers, as-read as read-as}
 use Rattle.session.specs.SessionAnswered.{nothingAnswered}
 use Rattle.session.proofs.ByCases.{plays}
 use Rattle.session.specs.declared.SessionAnswer.{SessionAnswer}
-use Rattle.session.specs.declared.Stage.{Stage}
+use Rattle.engine.specs.declared.Stage.{Stage}
 use Rattle.session.specs.SessionAnswered.{answered}
 use Rattle.arrivals.specs.Places.{entriesOf, logOf}
-use Rattle.session.specs.Running.{nowhere, Same, Alike, Running, OpenedTo, Ready, Through, Ending, Ended, Playable}
-use Rattle.session.proofs.Engine.{shown-same, clocks-are, worked-are}
+use Rattle.engine.specs.Running.{nowhere, Same, Alike, Running, OpenedTo, Ready, Through, Ending, Ended, Playable}
+use Rattle.engine.proofs.Engine.{shown-same, clocks-are, worked-are}
 
 -- an accepted answer with these figures
 abbrev pub made : ℕ → ℕ → List ℕ → List ℕ → ℕ → SessionAnswer

@@ -1,2 +1,1 @@
 pub mod SessionAnswered
-pub mod Running

@@ -6,7 +6,7 @@ use native.Mathlib.Omega.{arith}
 use borrow.Author.Needs.{needs}
 use lib.ListN.{take}
 use Rattle.rules.specs.Values.{padded}
-use Rattle.session.proofs.Engine.{one-clock}
+use Rattle.engine.proofs.Engine.{one-clock}
 use Rattle.session.proofs.clocks_of.Statement.{statement}
 use Rattle.session.proofs.clocks_of.Tie as tie
 use Rattle.session.proofs.clocks_of.Reads as reads

@@ -6,9 +6,9 @@ use Rattle.session.proofs.play_all.Tie as tie
 use Rattle.session.proofs.play_all.Reads as reads
 use Rattle.session.proofs.play_all.Lts as lts
 use Rattle.session.proofs.clocks_of.Reads as clocks-of-reads
-use Rattle.session.proofs.close.Reads as close-reads
-use Rattle.session.proofs.open_all.Reads as open-all-reads
-use Rattle.session.proofs.run.Reads as run-reads
+use Rattle.engine.proofs.close.Reads as close-reads
+use Rattle.engine.proofs.open_all.Reads as open-all-reads
+use Rattle.engine.proofs.run.Reads as run-reads
 
 open-all-requires : tie.Need-open-all-requires
 open-all-requires c κs = search needs

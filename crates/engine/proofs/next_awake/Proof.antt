@@ -1,11 +1,11 @@
--- `session::next_awake` meets its contract: the booths passed sleep at t. Assumes nothing.
+-- `engine::next_awake` meets its contract: the booths passed sleep at t. Assumes nothing.
 use Prim.Native.Nat.{ℕ, _-_, _≤_, _<_}
 use native.Mathlib.Omega.{arith}
 use borrow.Author.Count.{below-more}
 use borrow.Author.Needs.{needs}
 use lib.ListN.{getD}
-use Rattle.session.proofs.next_awake.Statement.{statement}
-use Rattle.session.proofs.next_awake.Tie as tie
+use Rattle.engine.proofs.next_awake.Statement.{statement}
+use Rattle.engine.proofs.next_awake.Tie as tie
 
 abbrev Inv-loop : tie.InvT-loop
 Inv-loop wakes n from t i₀ i = (from ≤ i) × (i ≤ n) × ((j : ℕ) → j < i → from ≤ j → t < getD wakes j 0)

@@ -1,14 +1,14 @@
--- `session::run` meets its contract: each way round the loop is one step of the engine. Assumes nothing.
+-- `engine::run` meets its contract: each way round the loop is one step of the engine. Assumes nothing.
 use mathlib.Core.Path.{_≡_, refl, sym, ap, _∙_, subst}
 use mathlib.Core.Bool.{true, false}
 use Prim.Native.Nat.{ℕ, suc, _+_, _*_, _-_, _≤_, _<_}
 use native.Mathlib.Omega.{arith}
 use borrow.Author.Needs.{needs}
 use lib.ListN.{length, getD, take, drop, set}
-use Rattle.session.specs.Running.{Running, Ready}
-use Rattle.session.proofs.Engine.{Going, row-inside, going-first, going-nobody, going-on, turn-asks, going-passed, going-plays, worked-fits}
-use Rattle.session.proofs.run.Statement.{statement}
-use Rattle.session.proofs.run.Tie as tie
+use Rattle.engine.specs.Running.{Running, Ready}
+use Rattle.engine.proofs.Engine.{Going, row-inside, going-first, going-nobody, going-on, turn-asks, going-passed, going-plays, worked-fits}
+use Rattle.engine.proofs.run.Statement.{statement}
+use Rattle.engine.proofs.run.Tie as tie
 
 abbrev Inv-loop : tie.InvT-loop
 Inv-loop n log wall₀ own₀ h booths₀ wakes₀ worked₀ idle₀ t₀ i₀ wall own booths wakes worked idle t i =

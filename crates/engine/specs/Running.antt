@@ -15,7 +15,7 @@ use Rattle.arrivals.specs.Places.{entriesFrom, waitingAt, Place, WholeLog, entr
 use Rattle.laws.specs.Courses.{AsRead, nobooth, Course, Closing}
 use Rattle.booth.specs.declared.Booth.{Booth as HeldBooth}
 use Rattle.booth.specs.BoothHeld.{shown, Fit}
-use Rattle.session.specs.declared.Stage.{Stage}
+use Rattle.engine.specs.declared.Stage.{Stage}
 
 -- stands past the end of an array of booths, where nothing is read
 abbrev pub nowhere : HeldBooth

@@ -1,14 +1,14 @@
--- `session::open_all` meets its contract: the first j booths are open. Assumes nothing.
+-- `engine::open_all` meets its contract: the first j booths are open. Assumes nothing.
 use mathlib.Core.Path.{_≡_, refl, sym, ap, _∙_, subst}
 use Prim.Native.Nat.{ℕ, _+_, _-_, _≤_, _<_}
 use native.Mathlib.Omega.{arith}
 use borrow.Author.Needs.{needs}
-use Rattle.session.specs.Running.{OpenedTo}
-use Rattle.session.proofs.Engine.{none-open, one-opened}
-use Rattle.session.proofs.open_all.Statement.{statement}
-use Rattle.session.proofs.open_all.Tie as tie
-use Rattle.session.proofs.open_all.Reads as reads
-use Rattle.session.proofs.open_all.Lts as lts
+use Rattle.engine.specs.Running.{OpenedTo}
+use Rattle.engine.proofs.Engine.{none-open, one-opened}
+use Rattle.engine.proofs.open_all.Statement.{statement}
+use Rattle.engine.proofs.open_all.Tie as tie
+use Rattle.engine.proofs.open_all.Reads as reads
+use Rattle.engine.proofs.open_all.Lts as lts
 use Rattle.booth.proofs.Booth.absent.Reads as absent-reads
 use Rattle.booth.proofs.Booth.open.Reads as open-reads
 

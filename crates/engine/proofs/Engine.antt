@@ -34,7 +34,7 @@ use Rattle.booth.specs.declared.Booth.{Booth as HeldBooth}
 use Rattle.booth.specs.BoothHeld.{AfterSettle, AfterAsk, shown, asked, wakesAt, Fit}
 use Rattle.booth.proofs.Working.{asleep-until}
 use Rattle.arrivals.specs.Places.{entriesOf}
-use Rattle.session.specs.Running.{nowhere, Same, Alike, Set, Running, Ready, NextAwake, Ending, Ended, OpenedTo}
+use Rattle.engine.specs.Running.{nowhere, Same, Alike, Set, Running, Ready, NextAwake, Ending, Ended, OpenedTo}
 
 -- ---- what a held booth shows
 

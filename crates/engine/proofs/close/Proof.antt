@@ -1,15 +1,15 @@
--- `session::close` meets its contract: the booths before i are settled at H. Assumes nothing.
+-- `engine::close` meets its contract: the booths before i are settled at H. Assumes nothing.
 use mathlib.Core.Path.{_≡_, refl, sym, ap, _∙_, subst}
 use Prim.Native.Nat.{ℕ, _+_, _*_, _-_, _≤_, _<_}
 use native.Mathlib.Omega.{arith}
 use borrow.Author.Needs.{needs}
 use lib.ListN.{length}
-use Rattle.session.specs.Running.{Ending, Ended}
-use Rattle.session.proofs.Engine.{row-inside, last-asks, last-step, last-length}
-use Rattle.session.proofs.close.Statement.{statement}
-use Rattle.session.proofs.close.Tie as tie
-use Rattle.session.proofs.close.Reads as reads
-use Rattle.session.proofs.close.Lts as lts
+use Rattle.engine.specs.Running.{Ending, Ended}
+use Rattle.engine.proofs.Engine.{row-inside, last-asks, last-step, last-length}
+use Rattle.engine.proofs.close.Statement.{statement}
+use Rattle.engine.proofs.close.Tie as tie
+use Rattle.engine.proofs.close.Reads as reads
+use Rattle.engine.proofs.close.Lts as lts
 use Rattle.booth.proofs.Booth.settle.Reads as settle-reads
 
 abbrev Inv-loop : tie.InvT-loop

@@ -1,0 +1,127 @@
+// The plain engine: every wall tick in turn, booth after booth, then all booths settle at H.
+ghost use mathlib.Core.Path.{_≡_};
+ghost use Prim.Native.Nat.{_≤_};
+ghost use Rattle.engine.specs.Running.{ToOpen, Opened, Ready, NextAwake, Ran, Ended, Closed};
+use booth::Booth;
+use rules::BOOTHS_ALLOWED;
+use rules::NOBODY;
+use rules::Table;
+use rules::WallTick;
+
+// The booths after the last wall tick, and what was counted on the way.
+pub struct Stage {
+    pub booths: [Booth; BOOTHS_ALLOWED],
+    pub worked: [u32; BOOTHS_ALLOWED],
+    pub idle: u32,
+}
+
+impl Stage {
+    fn after(booths: [Booth; BOOTHS_ALLOWED], worked: [u32; BOOTHS_ALLOWED], idle: u32) -> Self
+        ensures { λ r. ⌜ r ≡ record { booths = booths; worked = worked; idle = idle } ⌝ }
+    {
+        Stage {
+            booths,
+            worked,
+            idle,
+        }
+    }
+}
+
+// Every booth of the table before wall tick 0.
+pub fn open_all(table: Table, log: &[u8]) -> [Booth; BOOTHS_ALLOWED]
+    requires { ⌜ ToOpen table (now log) ⌝ }
+    ensures { λ r. ⌜ Opened table (now (log .entry)) r ⌝ }
+{
+    let lines = table.lines;
+    let n = table.booths;
+    let mut booths = [Booth::absent(); BOOTHS_ALLOWED];
+    let mut j = 0;
+    while j < n {
+        let line = lines[j];
+        booths[j] = Booth::open(j, line, log);
+        j += 1;
+    }
+    booths
+}
+
+// The first booth from `from` on that is awake at `t`; n where all of them sleep.
+fn next_awake(wakes: &[usize; BOOTHS_ALLOWED], n: usize, from: usize, t: usize) -> usize
+    requires { ⌜ (from ≤ n) × (n ≤ 8) ⌝ }
+    ensures { λ r. ⌜ NextAwake (now (wakes .entry)) n from t r ⌝ }
+{
+    let mut i = from;
+    while i < n {
+        if wakes[i] <= t {
+            return i;
+        }
+        i += 1;
+    }
+    i
+}
+
+// Wall tick after wall tick, booth after booth: i booths were asked at t in vain. A booth that cannot work before it wakes is passed over.
+pub fn run(
+    start: [Booth; BOOTHS_ALLOWED],
+    n: usize,
+    log: &[u8],
+    wall: &mut [u8],
+    own: &mut [u8],
+    h: usize,
+) -> Stage
+    requires { ⌜ Ready n h start (now log) (now wall) (now own) ⌝ }
+    ensures { λ r. ⌜ Ran n h start (now (log .entry)) (now (wall .entry)) (now (own .entry)) r (now (wall .exit)) (now (own .exit)) ⌝ }
+{
+    let mut booths = start;
+    let mut wakes = [0usize; BOOTHS_ALLOWED];
+    let mut worked = [0u32; BOOTHS_ALLOWED];
+    let mut idle: u32 = 0;
+    let mut t = 0;
+    let mut i = 0;
+    while t < h {
+        i = next_awake(&wakes, n, i, t);
+        if i == n {
+            wall[t] = NOBODY;
+            idle += 1;
+            t += 1;
+            i = 0;
+            continue;
+        }
+        let a = i * h;
+        let asked = booths[i].ask(log, &mut own[a..a + h], WallTick(t as u32));
+        let booth = asked.booth;
+        booths[i] = booth;
+        wakes[i] = asked.wakes.0 as usize;
+        if asked.worked {
+            wall[t] = i as u8;
+            worked[i] += 1;
+            t += 1;
+            i = 0;
+            continue;
+        }
+        i += 1;
+    }
+    Stage::after(booths, worked, idle)
+}
+
+// After the last wall tick all booths settle at H.
+pub fn close(
+    played: [Booth; BOOTHS_ALLOWED],
+    n: usize,
+    log: &[u8],
+    own: &mut [u8],
+    h: usize,
+) -> [Booth; BOOTHS_ALLOWED]
+    requires { ⌜ Ended n h played (now log) (now own) ⌝ }
+    ensures { λ r. ⌜ Closed n h played (now (log .entry)) (now (own .entry)) r (now (own .exit)) ⌝ }
+{
+    let mut booths = played;
+    let mut i = 0;
+    while i < n {
+        let a = i * h;
+        let row = &mut own[a..a + h];
+        let settled = booths[i].settle(log, row, WallTick(h as u32));
+        booths[i] = settled;
+        i += 1;
+    }
+    booths
+}
