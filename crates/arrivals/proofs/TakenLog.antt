@@ -15,7 +15,7 @@ use Rattle.laws.specs.Ordered.{Sorted}
 use Rattle.laws.proofs.Readers.{all-at, LogRead, read-log}
 use Rattle.table.proofs.Test.{line-in}
 use Rattle.arrivals.specs.Places.{entriesFrom, entriesOf, logOf, Place, WholeLog}
-use Rattle.arrivals.proofs.Places.{length-from, from-at, place-index}
+use Rattle.arrivals.proofs.PlaceLaws.{length-from, from-at, place-index}
 
 module _ (ls : List Line) (bs : List ℕ) (log : Log) (read : readLog ls bs ≡ taken log) where
   known : LogRead ls bs log

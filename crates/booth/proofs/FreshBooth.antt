@@ -7,7 +7,7 @@ use lib.ListN.{length, getD, take, replicate, length-take}
 use lib.Seq.{length-take-le}
 use Rattle.rules.specs.declared.Line.{Line as HeldLine}
 use Rattle.rules.specs.ArrivalLog.{entryAt}
-use Rattle.rules.specs.Moves.{noDemand}
+use Rattle.rules.specs.Moves.{nobody, firstTask}
 use Rattle.rules.specs.Session.{freshBooth}
 use Rattle.rules.specs.Values.{lineHeld}
 use Rattle.rules.proofs.Held.{zeros}
@@ -16,7 +16,7 @@ use Rattle.table.proofs.Test.{fit-sound, fit-short}
 use Rattle.table.specs.Fit.{FitLine}
 use Rattle.arrivals.specs.Places.{waitingAt, Place, WholeLog}
 use Rattle.booth.specs.declared.Booth.{Booth as HeldBooth}
-use Rattle.booth.specs.BoothHeld.{firstOf, shown, Fit, lookingAt, Looked}
+use Rattle.booth.specs.BoothHeld.{shown, Fit, lookingAt, Looked}
 
 abbrev silent : List ℕ
 silent = 0 ∷ 0 ∷ 0 ∷ 0 ∷ 0 ∷ 0 ∷ 0 ∷ 0 ∷ []
@@ -28,7 +28,7 @@ unopened number line =
       number = number;
       tasks = line .tasks;
       demand = silent;
-      first = 8;
+      first = nobody;
       at = 9;
       promise = line .promise;
       clock = record { 0 = 0 };
@@ -41,8 +41,8 @@ take-zeros zero m h = refl
 take-zeros (suc n) zero h = absurd (omega arith)
 take-zeros (suc n) (suc m) h = ap (λ xs. 0 ∷ xs) (take-zeros n m (omega arith))
 
-no-first : 8 ≡ firstOf silent
-unfolding firstOf noDemand
+no-first : nobody ≡ firstTask 0 silent
+unfolding firstTask
 no-first = refl
 
 module _ (bs : List ℕ) (number : ℕ) (line : HeldLine) (log : WholeLog bs) (fit : FitLine line)
@@ -63,7 +63,7 @@ module _ (bs : List ℕ) (number : ℕ) (line : HeldLine) (log : WholeLog bs) (f
   unfolding lookingAt
   kept-demand = ap (λ h. h .demand) (looked .is)
 
-  kept-first : r .first ≡ 8
+  kept-first : r .first ≡ nobody
   unfolding lookingAt
   kept-first = ap (λ h. h .first) (looked .is)
 
@@ -80,7 +80,7 @@ module _ (bs : List ℕ) (number : ℕ) (line : HeldLine) (log : WholeLog bs) (f
         tasks = subst (λ n. n ≤ 8) (sym kept-tasks) (fit .tasks);
         eight = ap length kept-demand;
         rest = λ k h. ap (λ ds. getD ds k 0) kept-demand ∙ zeros 8 k;
-        first = kept-first ∙ no-first ∙ ap firstOf (sym kept-demand);
+        first = kept-first ∙ no-first ∙ ap (firstTask 0) (sym kept-demand);
       };
       waits = looked .waits;
       own = λ at p l e. subst (λ n. (entryAt bs at) .task < n) (sym kept-tasks) (own at p l (e ∙ kept-number));

@@ -3,5 +3,5 @@ pub mod RowWritten
 pub mod Taking
 pub mod Settling
 pub mod Working
-pub mod Asking
+pub mod OneTurn
 pub mod FreshBooth

@@ -12,7 +12,7 @@ use Rattle.rules.specs.declared.Promise.{Promise}
 use Rattle.rules.specs.BoothTable.{Line}
 use Rattle.rules.specs.ArrivalLog.{Entry}
 use Rattle.rules.specs.Due.{due, releasePoint}
-use Rattle.rules.specs.Moves.{Booth, noDemand, settle}
+use Rattle.rules.specs.Moves.{Booth, nobody, noDemand, settle}
 use Rattle.rules.specs.InRange.{Sound}
 use Rattle.rules.specs.InRange.{Sound}
 use Rattle.laws.proofs.DueLaws.{due-mono, due-at-most}
@@ -20,18 +20,18 @@ use Rattle.laws.proofs.QuickSettle.{rest, rests, takesFirst, settleThrough, qui
 use Rattle.laws.specs.Courses.{forward, addFirst, afterFirst, InOrder}
 use Rattle.laws.proofs.PageSettle.{settle-quick}
 use Rattle.arrivals.specs.Places.{waitingAt, WholeLog}
-use Rattle.arrivals.proofs.Places.{waiting-end, waiting-sorted}
+use Rattle.arrivals.proofs.PlaceLaws.{waiting-end, waiting-sorted}
 use Rattle.booth.specs.declared.Booth.{Booth as HeldBooth}
 use Rattle.booth.specs.BoothHeld.{shown, takenNext, takesNext, Steady, Fit, Stays, clockAt, lengthened}
-use Rattle.booth.proofs.Demand.{eight-none, none-taken}
+use Rattle.booth.proofs.Demand.{nobody-first, none-taken}
 use Rattle.booth.proofs.RowWritten.{written-behind, agree-later}
 use Rattle.booth.proofs.Taking.{entryOf, taken-next, first-waits, shown-moved, fit-moved}
 
 -- the held first task says whether demand is left
-pub held-none : (l : Line) (bs : List ℕ) (h : HeldBooth) (row : List ℕ) → Steady h → eqb (h .first) 8 ≡ noDemand ((shown l bs h row) .left)
+pub held-none : (l : Line) (bs : List ℕ) (h : HeldBooth) (row : List ℕ) → Steady h → eqb (h .first) nobody ≡ noDemand ((shown l bs h row) .left)
 unfolding shown
 held-none l bs h row s =
-    ap (λ k. eqb k 8) (s .first) ∙ eight-none (h .demand) (omega (arith, s .eight)) ∙ sym (none-taken (h .tasks) (h .demand) (s .rest))
+    ap (λ k. eqb k nobody) (s .first) ∙ nobody-first (h .demand) (omega (arith, s .eight)) ∙ sym (none-taken (h .tasks) (h .demand) (s .rest))
 
 -- a booth in the hand of the code is in order, as the laws on settling ask
 pub shown-in-order : (l : Line) (bs : List ℕ) (h : HeldBooth) (row : List ℕ) (t : ℕ) → l .promise ≡ h .promise → WholeLog bs → Fit bs h → h .clock .0 ≤ due (h .promise) t
@@ -73,12 +73,12 @@ module _ (bs : List ℕ) (h : HeldBooth) (row : List ℕ) (t : ℕ) (fit : Fit b
       ∙ ap (λ x. leb ((entryOf bs h) .tick) t && x)
       (swap-or (leb (due (h .promise) ((entryOf bs h) .tick)) (h .clock .0)) (noDemand (take (h .tasks) (h .demand)))
       ∙ ap (λ x. x || leb (due (h .promise) ((entryOf bs h) .tick)) (h .clock .0)) (sym (held-none l bs h row (fit .steady)))
-      ∙ ap (λ x. eqb (h .first) 8 || leb x (h .clock .0)) (sym (n .point)))
-      ∙ ap (λ x. leb x t && (eqb (h .first) 8 || leb (h .point .0) (h .clock .0))) (sym (n .tick))
+      ∙ ap (λ x. eqb (h .first) nobody || leb x (h .clock .0)) (sym (n .point)))
+      ∙ ap (λ x. leb x t && (eqb (h .first) nobody || leb (h .point .0) (h .clock .0))) (sym (n .tick))
 
   pub has-come : takesNext t h ≡ true → h .tick .0 ≤ t
   unfolding takesNext
-  has-come q = leb-true (h .tick .0) t (both-first (leb (h .tick .0) t) (eqb (h .first) 8 || leb (h .point .0) (h .clock .0)) q)
+  has-come q = leb-true (h .tick .0) t (both-first (leb (h .tick .0) t) (eqb (h .first) nobody || leb (h .point .0) (h .clock .0)) q)
 
   -- an entry that is taken stands in the log
   pub takes-inside : t < 1000001 → takesNext t h ≡ true → h .at < length bs
@@ -176,17 +176,17 @@ module _ (bs : List ℕ) (t : ℕ) (h₀ : HeldBooth) (row₀ : List ℕ) (h : H
         ∙ sym (settle-quick t (shown l bs h₀ row₀) (shown-in-order l bs h₀ row₀ t q log fit₀ cap₀))
 
     -- with demand left it has settled
-    pub settled-busy : (h .first ≡ 8 → ⊥) → shown l bs h row ≡ settle t (shown l bs h₀ row₀)
+    pub settled-busy : (h .first ≡ nobody → ⊥) → shown l bs h row ≡ settle t (shown l bs h₀ row₀)
     settled-busy busy =
-        let some : noDemand ((shown l bs h row) .left) ≡ false = sym (held-none l bs h row (s .fit .steady)) ∙ ne-eqb (h .first) 8 busy in
+        let some : noDemand ((shown l bs h row) .left) ≡ false = sym (held-none l bs h row (s .fit .steady)) ∙ ne-eqb (h .first) nobody busy in
         sym (rests t (shown l bs h row) (λ x. x ≡ shown l bs h row) (λ z. absurd (true≢false (sym z ∙ some))) (λ z. refl)) ∙ rests-now
 
     -- with none, once its clock has moved on to due(t)
-    pub settled-free : h .first ≡ 8 → (v : ℕ) → v ≡ due (h .promise) t
+    pub settled-free : h .first ≡ nobody → (v : ℕ) → v ≡ due (h .promise) t
         → shown l bs (clockAt h (h .clock .0 + (v - h .clock .0))) (lengthened row (h .clock .0) (replicate (v - h .clock .0) 255)) ≡ settle t (shown l bs h₀ row₀)
     unfolding shown
     settled-free free v is =
-        let none : noDemand ((shown l bs h row) .left) ≡ true = sym (held-none l bs h row (s .fit .steady)) ∙ eq-eqb (h .first) 8 free in
+        let none : noDemand ((shown l bs h row) .left) ≡ true = sym (held-none l bs h row (s .fit .steady)) ∙ eq-eqb (h .first) nobody free in
         shown-moved l bs h row v inside
         ∙ ap (λ x. forward x (shown l bs h row)) (is ∙ ap (λ p. due p t) (s .stays .promise ∙ sym q))
         ∙ sym (rests t (shown l bs h row) (λ x. x ≡ forward (due (l .promise) t) (shown l bs h row)) (λ z. refl) (λ z. absurd (true≢false (sym none ∙ z))))

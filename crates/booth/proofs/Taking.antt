@@ -16,9 +16,9 @@ use Rattle.rules.specs.Moves.{Booth, nobody, noDemand, addDemand}
 use Rattle.laws.proofs.QuickSettle.{takesFirst, settleThrough, quickSettle}
 use Rattle.laws.specs.Courses.{forward, addFirst, afterFirst}
 use Rattle.arrivals.specs.Places.{waitingAt}
-use Rattle.arrivals.proofs.Places.{whole-entry, waiting-own}
+use Rattle.arrivals.proofs.PlaceLaws.{whole-entry, waiting-own}
 use Rattle.booth.specs.declared.Booth.{Booth as HeldBooth}
-use Rattle.booth.specs.BoothHeld.{shown, takenNext, firstOf, Next, Waits, Fit, Looked, lookingAt, demanding, clockAt, lengthened}
+use Rattle.booth.specs.BoothHeld.{shown, takenNext, Next, Waits, Fit, Looked, lookingAt, demanding, clockAt, lengthened}
 use Rattle.booth.proofs.Demand.{add-taken}
 use Rattle.booth.proofs.RowWritten.{written-front}
 

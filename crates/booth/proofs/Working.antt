@@ -13,55 +13,56 @@ use lib.Seq.{getD-set-same, getD-set-other, take-suc-set, drop-set-lt}
 use borrow.Author.Tests.{eq-eqb, ne-eqb, lt-ltb, le-ltb, eqb-true, eqb-false}
 use Rattle.rules.specs.BoothTable.{Line}
 use Rattle.rules.specs.Due.{due}
-use Rattle.rules.specs.Moves.{Booth, noDemand, firstTask, loseOne, mayWork, work, settle}
+use Rattle.rules.specs.Moves.{Booth, nobody, noDemand, firstTask, loseOne, mayWork, work, settle}
 use Rattle.laws.proofs.QuickSettle.{Late}
 use Rattle.laws.specs.Courses.{InOrder}
 use Rattle.laws.proofs.DueLaws.{not-yet-due}
 use Rattle.laws.proofs.Asleep.{asleep-silent, asleep-busy}
 use Rattle.arrivals.specs.Places.{WholeLog}
-use Rattle.arrivals.proofs.Places.{waiting-end}
+use Rattle.arrivals.proofs.PlaceLaws.{waiting-end}
 use Rattle.booth.specs.declared.Booth.{Booth as HeldBooth}
 use Rattle.booth.specs.declared.Chosen.{Chosen}
 use Rattle.booth.specs.declared.Chosen.the-variants.{Task, Nothing}
-use Rattle.booth.specs.BoothHeld.{firstOf, shown, settledAnswer, wakesAt, Steady, Fit, Stays, AfterPlay}
-use Rattle.booth.proofs.Demand.{First, demand-or-none, first-here, first-same, first-taken, lose-taken}
+use Rattle.booth.specs.BoothHeld.{shown, settledAnswer, wakesAt, Steady, Fit, Stays, AfterPlay}
+use Rattle.rules.proofs.FirstDemand.{First, first-here}
+use Rattle.booth.proofs.Demand.{demand-or-none, first-same, first-taken, lose-taken}
 use Rattle.booth.proofs.Taking.{first-waits}
 use Rattle.booth.proofs.Settling.{held-none, shown-in-order}
 
 -- ---- the answer
 
 -- the held first task is the rule's
-pub held-first : (h : HeldBooth) → Steady h → (h .first ≡ 8 → ⊥) → First (h .demand) (h .first)
+pub held-first : (h : HeldBooth) → Steady h → (h .first ≡ nobody → ⊥) → First (h .demand) (h .first)
 held-first h s busy = ⊎-elim (λ w. absurd (busy (s .first ∙ w .1))) (λ w. subst (First (h .demand)) (sym (s .first)) (w .1)) (demand-or-none (h .demand))
 
 module _ (l : Line) (bs : List ℕ) (h : HeldBooth) (row : List ℕ) (s : Steady h) (q : l .promise ≡ h .promise) where
-  pub task-held : (h .first ≡ 8 → ⊥) → firstTask 0 (take (h .tasks) (h .demand)) ≡ h .first
+  pub task-held : (h .first ≡ nobody → ⊥) → firstTask 0 (take (h .tasks) (h .demand)) ≡ h .first
   task-held busy =
       (first-here (take (h .tasks) (h .demand)) (h .first) (first-taken (h .tasks) (h .demand) (s .rest) (h .first) (held-first h s busy))) .1
 
   -- whether the booth may work, as the code tests it
-  pub may-held : (t : ℕ) → mayWork t (shown l bs h row) ≡ (not (eqb (h .first) 8) && ltb (h .clock .0) (due (h .promise) (suc t)))
+  pub may-held : (t : ℕ) → mayWork t (shown l bs h row) ≡ (not (eqb (h .first) nobody) && ltb (h .clock .0) (due (h .promise) (suc t)))
   unfolding mayWork shown
   may-held t =
       ap (λ p. not (noDemand (take (h .tasks) (h .demand))) && ltb (h .clock .0) (due p (suc t))) q
       ∙ ap (λ c. not c && ltb (h .clock .0) (due (h .promise) (suc t))) (sym (held-none l bs h row s))
 
-  pub answers-none : (t : ℕ) → h .first ≡ 8 → Nothing ≡ settledAnswer t (shown l bs h row)
+  pub answers-none : (t : ℕ) → h .first ≡ nobody → Nothing ≡ settledAnswer t (shown l bs h row)
   unfolding settledAnswer
   answers-none t free =
-      let may : mayWork t (shown l bs h row) ≡ false = may-held t ∙ rw (eq-eqb (h .first) 8 free) in
+      let may : mayWork t (shown l bs h row) ≡ false = may-held t ∙ rw (eq-eqb (h .first) nobody free) in
       rw (may, settledAnswer)
 
-  pub answers-late : (t : ℕ) → (h .first ≡ 8 → ⊥) → due (h .promise) (suc t) ≤ h .clock .0 → Nothing ≡ settledAnswer t (shown l bs h row)
+  pub answers-late : (t : ℕ) → (h .first ≡ nobody → ⊥) → due (h .promise) (suc t) ≤ h .clock .0 → Nothing ≡ settledAnswer t (shown l bs h row)
   unfolding settledAnswer
   answers-late t busy late =
-      let may : mayWork t (shown l bs h row) ≡ false = may-held t ∙ rw (ne-eqb (h .first) 8 busy, le-ltb (h .clock .0) (due (h .promise) (suc t)) late) in
+      let may : mayWork t (shown l bs h row) ≡ false = may-held t ∙ rw (ne-eqb (h .first) nobody busy, le-ltb (h .clock .0) (due (h .promise) (suc t)) late) in
       rw (may, settledAnswer)
 
-  pub answers-task : (t : ℕ) → (h .first ≡ 8 → ⊥) → h .clock .0 < due (h .promise) (suc t) → Task (h .first) ≡ settledAnswer t (shown l bs h row)
+  pub answers-task : (t : ℕ) → (h .first ≡ nobody → ⊥) → h .clock .0 < due (h .promise) (suc t) → Task (h .first) ≡ settledAnswer t (shown l bs h row)
   unfolding settledAnswer shown
   answers-task t busy early =
-      let may : mayWork t (shown l bs h row) ≡ true = may-held t ∙ rw (ne-eqb (h .first) 8 busy, lt-ltb (h .clock .0) (due (h .promise) (suc t)) early) in
+      let may : mayWork t (shown l bs h row) ≡ true = may-held t ∙ rw (ne-eqb (h .first) nobody busy, lt-ltb (h .clock .0) (due (h .promise) (suc t)) early) in
       rw (may, settledAnswer) (ap Task (sym (task-held busy)))
 
 -- ---- the work
@@ -99,7 +100,7 @@ module _ (h : HeldBooth) (s : Steady h) (k : ℕ) (f : First (h .demand) k) wher
       go (yes q) = rw (q, getD-set-same (h .demand) k (getD (h .demand) k 0 - 1) 0 (f .there)) (omega arith)
       go (no ne) = rw (getD-set-other (h .demand) k j (getD (h .demand) k 0 - 1) 0 ne) (omega arith)
 
-  pub after-play : (first : ℕ) → first ≡ firstOf (set (h .demand) k (getD (h .demand) k 0 - 1)) → AfterPlay h (worked h k first)
+  pub after-play : (first : ℕ) → first ≡ firstTask 0 (set (h .demand) k (getD (h .demand) k 0 - 1)) → AfterPlay h (worked h k first)
   unfolding worked
   after-play first q =
       record { steady = steady; fit = fit; stays = record { number = refl; promise = refl; tasks = refl }; at = refl; tick = refl; point = refl; clock = refl; falls = demand-falls }
@@ -129,7 +130,7 @@ module _ (h : HeldBooth) (s : Steady h) (k : ℕ) (f : First (h .demand) k) wher
           }
 
   -- the first task stays the first while it has demand left
-  pub first-stays : 0 < getD (h .demand) k 0 - 1 → k ≡ firstOf (set (h .demand) k (getD (h .demand) k 0 - 1))
+  pub first-stays : 0 < getD (h .demand) k 0 - 1 → k ≡ firstTask 0 (set (h .demand) k (getD (h .demand) k 0 - 1))
   first-stays some = sym (first-same (h .demand) k k (getD (h .demand) k 0 - 1) f (f .there) some (omega arith))
 
 -- ---- asleep
@@ -138,7 +139,7 @@ module _ (h : HeldBooth) (s : Steady h) (k : ℕ) (f : First (h .demand) k) wher
 pub asleep-until : (l : Line) (bs : List ℕ) (h : HeldBooth) (row : List ℕ) (t : ℕ) → l .promise ≡ h .promise → WholeLog bs → Fit bs h → h .clock .0 ≤ due (h .promise) t → t < wakesAt h
     → mayWork t (settle t (shown l bs h row)) ≡ false
 unfolding wakesAt shown
-asleep-until l bs h row t p log fit cap early = go (eqb (h .first) 8) refl
+asleep-until l bs h row t p log fit cap early = go (eqb (h .first) nobody) refl
   where
     order : InOrder t (shown l bs h row)
     order = shown-in-order l bs h row t p log fit cap
@@ -152,7 +153,7 @@ asleep-until l bs h row t p log fit cap early = go (eqb (h .first) 8) refl
             let more : h .at < length bs = omega arith in
             rw (first-waits bs h fit more) (omega (arith, (fit .waits .next more) .tick))
 
-    go : (c : Bool) → eqb (h .first) 8 ≡ c → mayWork t (settle t (shown l bs h row)) ≡ false
+    go : (c : Bool) → eqb (h .first) nobody ≡ c → mayWork t (settle t (shown l bs h row)) ≡ false
     go true q = asleep-silent t (shown l bs h row) order (sym (held-none l bs h row (fit .steady)) ∙ q) (late (rw (q, wakesAt) at early))
     go false q =
         asleep-busy t (shown l bs h row) order (sym (held-none l bs h row (fit .steady)) ∙ q)

@@ -8,7 +8,7 @@ use lib.ListN.{length, getD, take, drop, set, replicate}
 use Rattle.rules.specs.BoothTable.{Line, longest-period}
 use Rattle.rules.specs.ArrivalLog.{entryAt}
 use Rattle.rules.specs.Due.{due, playableFrom}
-use Rattle.rules.specs.Moves.{Booth, noDemand, firstTask, settle, mayWork, work}
+use Rattle.rules.specs.Moves.{Booth, nobody, firstTask, settle, mayWork, work}
 use Rattle.rules.specs.InRange.{Sound}
 use Rattle.arrivals.specs.Places.{waitingAt, Place}
 use Rattle.laws.specs.Courses.{afterFirst}
@@ -16,10 +16,6 @@ use Rattle.booth.specs.declared.Booth.{Booth as HeldBooth}
 use Rattle.booth.specs.declared.Asked.{Asked}
 use Rattle.booth.specs.declared.Chosen.{Chosen}
 use Rattle.booth.specs.declared.Chosen.the-variants.{Task, Nothing}
-
--- the first task with demand; 8 where there is none
-unfoldable pub firstOf : List ℕ → ℕ
-firstOf ds = elim (noDemand ds) [ true ↦ 8 | false ↦ firstTask 0 ds ]
 
 abbrev pub never : ℕ
 never = 4294967295
@@ -31,7 +27,7 @@ absentBooth =
       number = 0;
       tasks = 0;
       demand = replicate 8 0;
-      first = 8;
+      first = nobody;
       at = 0;
       promise = record { period = 0; allowance = 0 };
       clock = record { 0 = 0 };
@@ -63,7 +59,7 @@ unfoldable pub takenNext : Booth → Booth
 takenNext b = elim (b .waiting) [ [] ↦ b | e ∷ es ↦ afterFirst e es b ]
 
 unfoldable pub takesNext : ℕ → HeldBooth → Bool
-takesNext t h = leb (h .tick .0) t && (eqb (h .first) 8 || leb (h .point .0) (h .clock .0))
+takesNext t h = leb (h .tick .0) t && (eqb (h .first) nobody || leb (h .point .0) (h .clock .0))
 
 -- ---- what holds of a held booth
 
@@ -92,7 +88,7 @@ pub record Steady (h : HeldBooth) : Type 0 where
   pub tasks : h .tasks ≤ 8
   pub eight : length (h .demand) ≡ 8
   pub rest : (k : ℕ) → h .tasks ≤ k → getD (h .demand) k 0 ≡ 0
-  pub first : h .first ≡ firstOf (h .demand)
+  pub first : h .first ≡ firstTask 0 (h .demand)
 
 -- what holds of a booth between two moves: also of its place in the log, its tasks there, and that no sum of demand grows too large
 pub record Fit (bs : List ℕ) (h : HeldBooth) : Type 0 where
@@ -129,7 +125,7 @@ pub record AfterPlay (h r : HeldBooth) : Type 0 where
 
 -- the wall tick before which a settled booth cannot work: its next entry's, or the one from which its own clock's tick may be played
 unfoldable pub wakesAt : HeldBooth → ℕ
-wakesAt h = elim (eqb (h .first) 8) [ true ↦ h .tick .0 | false ↦ playableFrom (h .promise) (h .clock .0) ]
+wakesAt h = elim (eqb (h .first) nobody) [ true ↦ h .tick .0 | false ↦ playableFrom (h .promise) (h .clock .0) ]
 
 -- asked at t: its clock has not gone back, and is not past due(t), or due(t + 1) where it worked; before `wakes` it need not be asked
 pub record AfterAsk (bs : List ℕ) (t : ℕ) (h : HeldBooth) (r : Asked) : Type 0 where
@@ -168,7 +164,7 @@ demanding h ds =
       number = h .number;
       tasks = h .tasks;
       demand = ds;
-      first = firstOf ds;
+      first = firstTask 0 ds;
       at = h .at;
       promise = h .promise;
       clock = h .clock;

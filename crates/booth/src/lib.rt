@@ -12,7 +12,7 @@ ghost use Rattle.rules.specs.Values.{lineHeld};
 ghost use Rattle.rules.specs.InRange.{Sound};
 ghost use Rattle.table.specs.Fit.{FitLine};
 ghost use Rattle.arrivals.specs.Places.{waitingAt, Place, WholeLog};
-ghost use Rattle.booth.specs.BoothHeld.{absentBooth, firstOf, shown, settledAnswer, asked, takesNext, takenNext, wakesAt, Found, Looked, Steady, Fit, Stays, AfterSettle, AfterPlay, AfterAsk, demanding, clockAt, lengthened};
+ghost use Rattle.booth.specs.BoothHeld.{absentBooth, shown, settledAnswer, asked, takesNext, takenNext, wakesAt, Found, Looked, Steady, Fit, Stays, AfterSettle, AfterPlay, AfterAsk, demanding, clockAt, lengthened};
 use rules::ENTRY_BYTES;
 use rules::Line;
 use rules::NOBODY;
@@ -23,13 +23,15 @@ use rules::WallTick;
 
 // The tick of an entry that never comes.
 const NEVER: u32 = 4294967295;
+// The first task of a booth without demand.
+const NO_TASK: usize = NOBODY as usize;
 
 // What a booth is promised and how many tasks it has, with what moves. Demand lies at a multiple of 16 bytes, where a copy is quickest.
 pub struct Booth {
     // Below 8, in a whole word, so that no padding is copied with the state.
     pub number: usize,
     pub tasks: usize,
-    // Unplayed demand for each task, and the first task with some; 8 where there is none.
+    // Unplayed demand for each task, and the first task with some, or none.
     pub demand: [u32; TASKS_ALLOWED],
     pub first: usize,
     // Where the first entry that waits lies in the log; its tick and its release point stand below.
@@ -80,20 +82,6 @@ fn silence(part: &mut [u8])
     }
 }
 
-// The first task with demand; 8 where there is none.
-fn first_task(demand: [u32; TASKS_ALLOWED]) -> usize
-    ensures { λ r. ⌜ r ≡ firstOf demand ⌝ }
-{
-    let mut k = 0;
-    while k < TASKS_ALLOWED {
-        if 0 < demand[k] {
-            return k;
-        }
-        k += 1;
-    }
-    k
-}
-
 impl Booth {
     // Stands in an array of booths where the table has none.
     pub fn absent() -> Self
@@ -107,7 +95,7 @@ impl Booth {
             number: 0,
             tasks: 0,
             demand: [0; TASKS_ALLOWED],
-            first: TASKS_ALLOWED,
+            first: NO_TASK,
             at: 0,
             promise,
             clock: OwnTick(0),
@@ -128,7 +116,7 @@ impl Booth {
             number,
             tasks: line.tasks,
             demand: [0; TASKS_ALLOWED],
-            first: TASKS_ALLOWED,
+            first: NO_TASK,
             at: 9,
             promise,
             clock: OwnTick(0),
@@ -160,7 +148,7 @@ impl Booth {
 
     // Task k has d more to play.
     fn add(mut self, k: usize, d: u32) -> Self
-        requires { ⌜ (k < 8) × (0 < d) × (length (self .demand) ≡ 8) × (getD (self .demand) k 0 + d < 4294967296) × (self .first ≡ firstOf (self .demand)) ⌝ }
+        requires { ⌜ (k < 8) × (0 < d) × (length (self .demand) ≡ 8) × (getD (self .demand) k 0 + d < 4294967296) × (self .first ≡ moves.firstTask 0 (self .demand)) ⌝ }
         ensures { λ r. ⌜ r ≡ demanding self (set (self .demand) k (getD (self .demand) k 0 + d)) ⌝ }
     {
         self.demand[k] = self.demand[k] + d;
@@ -193,7 +181,7 @@ impl Booth {
         if t.0 < self.tick.0 {
             return false;
         }
-        if self.first == TASKS_ALLOWED {
+        if self.first == NO_TASK {
             return true;
         }
         self.point.0 <= self.clock.0
@@ -227,7 +215,7 @@ impl Booth {
         while self.takes(t) {
             self = self.take_next(log, row);
         }
-        if self.first == TASKS_ALLOWED {
+        if self.first == NO_TASK {
             let promise = self.promise;
             let to = rules::due(promise, t);
             self = self.pass(row, to);
@@ -245,7 +233,7 @@ impl Booth {
         if self.takes(t) {
             return self.catch_up(log, row, t);
         }
-        if self.first < TASKS_ALLOWED {
+        if self.first != NO_TASK {
             return self;
         }
         self.catch_up(log, row, t)
@@ -257,7 +245,7 @@ impl Booth {
         ensures { λ r. ⌜ ((l : PageLine) (bs row : List ℕ) → l .promise ≡ self .promise → r ≡ settledAnswer (t .0) (shown l bs self row)) ⌝ }
     {
         let first = self.first;
-        if first == TASKS_ALLOWED {
+        if first == NO_TASK {
             return Chosen::Nothing;
         }
         let promise = self.promise;
@@ -284,7 +272,7 @@ impl Booth {
         self.clock = clock;
         if left == 0 {
             let all = self.demand;
-            self.first = first_task(all);
+            self.first = rules::first_task(all);
         }
         self
     }
@@ -294,7 +282,7 @@ impl Booth {
         requires { ⌜ Steady self × (page.playableFrom (self .promise) (self .clock .0) < 4294967296) ⌝ }
         ensures { λ r. ⌜ r .0 ≡ wakesAt self ⌝ }
     {
-        if self.first == TASKS_ALLOWED {
+        if self.first == NO_TASK {
             return self.tick;
         }
         let promise = self.promise;

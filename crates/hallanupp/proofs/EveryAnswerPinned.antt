@@ -9,11 +9,11 @@ use Rattle.rules.specs.Session as page
 use Rattle.rules.specs.SoloPart.{askSolo}
 use Rattle.rules.specs.RowBack.{rowBack}
 use Rattle.rules.specs.Panel as shares
-use Rattle.session.specs.Answer.{answered}
-use Rattle.text.specs.Answer.{textLength, withText}
+use Rattle.session.specs.SessionAnswered.{answered}
+use Rattle.text.specs.TextAnswered.{textLength, withText}
 use Rattle.hallanupp.specs.OneReply.{Lives, Call, Asks, Tells, Reply, Meets, Replies, OneReply}
 use Rattle.rules.specs.Files.{filesVerdict}
-use Rattle.hallanupp.specs.Verdicts.{tableVerdict, inC}
+use Rattle.hallanupp.specs.VerdictInC.{tableVerdict, inC}
 use Rattle.hallanupp.specs.RowInC.{rowInC}
 use Rattle.hallanupp.specs.PanelInC.{panelInC}
 use Rattle.hallanupp.specs.SessionInC.{sessionInC}

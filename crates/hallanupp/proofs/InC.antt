@@ -25,7 +25,7 @@ use Rattle.panel.proofs.Cases.{panel-bad-table, panel-absent, panel-past, panel
 use Rattle.hallanupp.specs.declared.CVerdict.{CVerdict}
 use Rattle.hallanupp.specs.declared.parts.CRow.{CRow}
 use Rattle.hallanupp.specs.declared.panels.CPanelRow.{CPanelRow}
-use Rattle.hallanupp.specs.Verdicts.{refusedInC, whatInC, inC}
+use Rattle.hallanupp.specs.VerdictInC.{refusedInC, whatInC, inC}
 use Rattle.hallanupp.specs.RowInC.{unlessRefused, rowInC}
 use Rattle.hallanupp.specs.PanelInC.{readingInC, panelInC, heldTick}
 

@@ -7,7 +7,7 @@ use Rattle.base.specs.Refusals.{Taken, taken, refused, refusal}
 use Rattle.rules.specs.Verdicts.{accepted, refusedAs}
 use Rattle.rules.specs.BoothTable.{Line}
 use Rattle.rules.specs.Admission.{readTable}
-use Rattle.hallanupp.specs.Verdicts.{tableVerdict, refusedInC, whatInC, inC}
+use Rattle.hallanupp.specs.VerdictInC.{tableVerdict, refusedInC, whatInC, inC}
 
 module _ (tableBytes : List ℕ) where
   pub table-refused : (r : Refusal) → readTable tableBytes ≡ refused r → inC (tableVerdict tableBytes) ≡ refusedInC 1 r

@@ -1,4 +1,4 @@
-pub mod Verdicts
+pub mod VerdictInC
 pub mod RowInC
 pub mod PanelInC
 pub mod SessionInC

@@ -8,7 +8,7 @@ use Rattle.panel.specs.declared.Reading.{Reading}
 use Rattle.panel.specs.declared.Reading.the-variants.{NoneYet, Below, AtCeiling, Over}
 use Rattle.panel.specs.Shown.{shownReading}
 use Rattle.hallanupp.specs.declared.panels.CPanelRow.{CPanelRow}
-use Rattle.hallanupp.specs.Verdicts.{inC}
+use Rattle.hallanupp.specs.VerdictInC.{inC}
 
 -- the share that a reading carries is the row's own
 unfoldable pub readingInC : Reading → ℕ

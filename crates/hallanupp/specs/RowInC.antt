@@ -4,7 +4,7 @@ use Rattle.rules.specs.declared.Refused.{Refused}
 use Rattle.rules.specs.declared.Refused.the-variants.{Nothing, TheTable, TheLog, TheCall}
 use Rattle.rules.specs.declared.Verdict.{Verdict}
 use Rattle.hallanupp.specs.declared.parts.CRow.{CRow}
-use Rattle.hallanupp.specs.Verdicts.{inC}
+use Rattle.hallanupp.specs.VerdictInC.{inC}
 
 -- the number itself where nothing is refused, and else 0
 unfoldable pub unlessRefused : Refused → ℕ → ℕ

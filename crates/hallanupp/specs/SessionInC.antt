@@ -1,7 +1,7 @@
 -- A session's answer in a C struct: the verdict, then a number for each booth in arrays of eight.
 use Rattle.session.specs.declared.SessionAnswer.{SessionAnswer}
 use Rattle.hallanupp.specs.declared.sessions.CSession.{CSession}
-use Rattle.hallanupp.specs.Verdicts.{inC}
+use Rattle.hallanupp.specs.VerdictInC.{inC}
 
 unfoldable pub sessionInC : SessionAnswer → CSession
 sessionInC a =

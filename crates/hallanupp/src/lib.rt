@@ -1,7 +1,7 @@
 // The C boundary: thin functions over the proved readers. include/hallanupp.h documents each for its callers.
 ghost use mathlib.Core.Path.{_≡_};
 ghost use Rattle.rules.specs.Files.{filesVerdict};
-ghost use Rattle.hallanupp.specs.Verdicts.{tableVerdict, inC, refusedInC};
+ghost use Rattle.hallanupp.specs.VerdictInC.{tableVerdict, inC, refusedInC};
 use crate::parts::in_c;
 use base::Refusal;
 

@@ -3,7 +3,7 @@ ghost use mathlib.Core.Path.{_≡_};
 ghost use lib.ListN.{take, drop};
 ghost use Rattle.rules.specs.RowBack.{rowBack};
 ghost use Rattle.rules.specs.SoloPart.{askSolo};
-ghost use Rattle.hallanupp.specs.Verdicts.{inC};
+ghost use Rattle.hallanupp.specs.VerdictInC.{inC};
 ghost use Rattle.hallanupp.specs.RowInC.{rowInC};
 use crate::CVerdict;
 use crate::c_verdict;

@@ -1,7 +1,7 @@
 // A whole session into two lent records.
 ghost use mathlib.Core.Path.{_≡_};
 ghost use Rattle.rules.specs.Session as page;
-ghost use Rattle.session.specs.Answer.{answered};
+ghost use Rattle.session.specs.SessionAnswered.{answered};
 ghost use Rattle.hallanupp.specs.SessionInC.{sessionInC};
 use crate::CVerdict;
 use crate::parts::in_c;

@@ -1,6 +1,6 @@
 // The desk's text of any input into a lent buffer.
 ghost use mathlib.Core.Path.{_≡_};
-ghost use Rattle.text.specs.Answer.{textLength, withText};
+ghost use Rattle.text.specs.TextAnswered.{textLength, withText};
 
 #[no_mangle]
 pub extern "C" fn hallanupp_desk_text(input: &[u8], out: &mut [u8]) -> usize

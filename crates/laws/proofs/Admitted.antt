@@ -16,7 +16,7 @@ use Rattle.rules.specs.Admission.{askedAbove, someUpTo, passes, firstFailing, r
 use Rattle.base.proofs.Checks.{refused-with}
 use Rattle.rules.proofs.SaidNumbers.{BeforeAdmission, lines-say}
 use Rattle.laws.specs.Statements.{Passes, FirstFails, Admission}
-use Rattle.laws.proofs.Checks.{taken-or-refused, taken-once, refused-once, some-not-none, some-once}
+use Rattle.laws.proofs.NoFault.{taken-or-refused, taken-once, refused-once, some-not-none, some-once}
 use Rattle.laws.proofs.Readers.{Lines, read-lines}
 
 -- ---- one booth's test

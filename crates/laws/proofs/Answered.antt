@@ -24,7 +24,7 @@ use Rattle.rules.specs.InRange.{GoodLine}
 use Rattle.rules.proofs.TwoFiles.{both-taken, read-in-turn, one-refused}
 use Rattle.laws.specs.Statements.{Passes, Accepted, outcome, booths, ticks, lineOf, clockOf, rowOf, wallOf, settledOf}
 use Rattle.laws.proofs.DueLaws.{due-at-most}
-use Rattle.laws.proofs.Checks.{no-fault}
+use Rattle.laws.proofs.NoFault.{no-fault}
 use Rattle.laws.proofs.Readers.{all-at, Lines, LogRead, read-log}
 use Rattle.laws.proofs.Admitted.{read-table, table-lines}
 use Rattle.laws.proofs.Run.{getD-map, length-booths}

@@ -10,7 +10,7 @@ pub mod Tasks
 pub mod Opening
 pub mod Rows
 pub mod WallRecord
-pub mod Checks
+pub mod NoFault
 pub mod Readers
 pub mod Admitted
 pub mod LentRows

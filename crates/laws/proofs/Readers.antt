@@ -20,7 +20,7 @@ use Rattle.rules.proofs.Records.{positive, record-passed}
 use Rattle.rules.specs.InRange.{GoodLine}
 use Rattle.laws.specs.Statements.{GoodEntry, no-entry}
 use Rattle.laws.specs.Ordered.{From, Sorted}
-use Rattle.laws.proofs.Checks.{taken-or-refused, taken-once, no-fault}
+use Rattle.laws.proofs.NoFault.{taken-or-refused, taken-once, no-fault}
 
 -- each of a list
 abbrev pub All : {A : Type 0} → (A → Type 0) → List A → Type 0

@@ -26,7 +26,7 @@ use Rattle.rules.specs.Panel.{share, no-share, none-yet, below, at-ceiling, ove
 use Rattle.base.proofs.Checks.{passed}
 use Rattle.rules.proofs.Counting.{count-append, count-most}
 use Rattle.panel.specs.Exact.{ExactShare, ExactAtPowers, ExactPanel}
-use Rattle.panel.proofs.Exact.{share-exact}
+use Rattle.panel.proofs.ExactShare.{share-exact}
 
 -- ---- how often a number stands in one byte more
 

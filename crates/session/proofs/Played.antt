@@ -33,11 +33,11 @@ use Rattle.files.specs.Told.{FilesTaken}
 use Rattle.rules.proofs.TwoFiles.{read-in-turn}
 use Rattle.laws.specs.Statements.{Accepted as Session}
 use Rattle.laws.proofs.Answered.{answers, as-read as read-as}
-use Rattle.session.specs.Answer.{nothingAnswered}
+use Rattle.session.specs.SessionAnswered.{nothingAnswered}
 use Rattle.session.proofs.ByCases.{plays}
 use Rattle.session.specs.declared.SessionAnswer.{SessionAnswer}
 use Rattle.session.specs.declared.Stage.{Stage}
-use Rattle.session.specs.Answer.{answered}
+use Rattle.session.specs.SessionAnswered.{answered}
 use Rattle.arrivals.specs.Places.{entriesOf, logOf}
 use Rattle.session.specs.Running.{nowhere, Same, Alike, Running, OpenedTo, Ready, Through, Ending, Ended, Playable}
 use Rattle.session.proofs.Engine.{shown-same, clocks-are, worked-are}

@@ -4,7 +4,7 @@ ghost use Prim.Native.Nat.{_+_, _*_, _≤_, _<_};
 ghost use lib.ListN.{length};
 ghost use Rattle.rules.specs.Session as page;
 ghost use Rattle.rules.specs.Values.{linesHeld};
-ghost use Rattle.session.specs.Answer as said;
+ghost use Rattle.session.specs.SessionAnswered as said;
 ghost use Rattle.arrivals.specs.Places.{logOf};
 ghost use Rattle.session.specs.Running.{ToOpen, Opened, Ready, NextAwake, Ran, Ended, Closed, Clocks, Playable};
 use base::Refusal;

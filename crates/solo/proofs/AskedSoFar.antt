@@ -20,7 +20,7 @@ use Rattle.laws.specs.Ordered.{Sorted}
 use Rattle.laws.proofs.Entries.{own-from, from-past}
 use Rattle.laws.proofs.Opening.{asked-none}
 use Rattle.arrivals.specs.Places.{entriesFrom, waitingAt, Place}
-use Rattle.arrivals.proofs.Places.{waiting-end, entries-step, entries-sorted}
+use Rattle.arrivals.proofs.PlaceLaws.{waiting-end, entries-step, entries-sorted}
 use Rattle.solo.specs.Alone.{Alone}
 
 module _ (l : Line) (e : Entry) (es : List Entry) (n k : ℕ) where

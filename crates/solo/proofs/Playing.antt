@@ -27,7 +27,7 @@ use Rattle.laws.proofs.LentRows.{length-written}
 use Rattle.solo.specs.declared.Player.{Player}
 use Rattle.solo.specs.Alone.{Alone, Point, Plays, Admitted, Passed, ownTick, never}
 use Rattle.arrivals.specs.Places.{waitingAt, Place}
-use Rattle.arrivals.proofs.Places.{first-place, whole-entry, waiting-own, waiting-other}
+use Rattle.arrivals.proofs.PlaceLaws.{first-place, whole-entry, waiting-own, waiting-other}
 use Rattle.solo.proofs.AskedSoFar.{asked-task, asked-elsewhere, none-asked}
 use Rattle.rules.proofs.FirstThat.{found, alike}
 

@@ -11,9 +11,9 @@ use Rattle.base.specs.declared.Refusal.{Refusal}
 use Rattle.base.specs.Refusals.{refuseIf, firstFault}
 use Rattle.rules.specs.RowBack.{rowChecks, rowBack}
 use Rattle.rules.specs.Desk as page
-use Rattle.laws.proofs.Checks.{no-fault}
+use Rattle.laws.proofs.NoFault.{no-fault}
 use Rattle.printing.specs.Put.{Put}
-use Rattle.text.specs.Answer.{booth-line-room}
+use Rattle.text.specs.TextAnswered.{booth-line-room}
 use Rattle.printing.proofs.Digits.{labelled-length}
 use Rattle.printing.proofs.LineLengths.{record-line-length}
 

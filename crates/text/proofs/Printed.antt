@@ -16,9 +16,9 @@ use Rattle.rules.specs.Values.{padded}
 use Rattle.rules.specs.Desk as page
 use Rattle.rules.proofs.Held.{zeros}
 use Rattle.session.specs.declared.SessionAnswer.{SessionAnswer}
-use Rattle.session.specs.Answer.{answered}
+use Rattle.session.specs.SessionAnswered.{answered}
 use Rattle.printing.specs.Put.{Put}
-use Rattle.text.specs.Answer.{answerText, text-room, textLength, withText}
+use Rattle.text.specs.TextAnswered.{answerText, text-room, textLength, withText}
 use Rattle.text.proofs.Unrefused.{fits}
 
 -- ---- the arrays of eight print as the lists they hold

@@ -1,1 +1,1 @@
-pub mod Answer
+pub mod TextAnswered

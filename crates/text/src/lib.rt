@@ -4,7 +4,7 @@ ghost use Prim.Native.Nat.{_+_, _*_, _≤_};
 ghost use lib.ListN.{length};
 ghost use Rattle.rules.specs.Desk as page;
 ghost use Rattle.printing.specs.Put.{Put};
-ghost use Rattle.text.specs.Answer.{answerText, text-room, booth-line-room, textLength, withText};
+ghost use Rattle.text.specs.TextAnswered.{answerText, text-room, booth-line-room, textLength, withText};
 use base::Refusal;
 use printing::booth_line;
 use printing::number_line;

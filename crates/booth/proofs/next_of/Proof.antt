@@ -6,7 +6,7 @@ use borrow.Author.Needs.{needs}
 use lib.ListN.{length}
 use Rattle.rules.specs.ArrivalLog.{entryAt}
 use Rattle.arrivals.specs.Places.{waitingAt, Place}
-use Rattle.arrivals.proofs.Places.{whole-entry, waiting-other}
+use Rattle.arrivals.proofs.PlaceLaws.{whole-entry, waiting-other}
 use Rattle.booth.proofs.next_of.Statement.{statement}
 use Rattle.booth.proofs.next_of.Tie as tie
 

@@ -1,6 +1,6 @@
 -- `hallanupp::c_verdict` meets its contract. Assumes nothing.
 use mathlib.Core.Path.{refl}
-use Rattle.hallanupp.specs.Verdicts.{refusedInC}
+use Rattle.hallanupp.specs.VerdictInC.{refusedInC}
 use Rattle.hallanupp.proofs.c_verdict.Statement.{statement}
 use Rattle.hallanupp.proofs.c_verdict.Tie as tie
 

@@ -1,7 +1,7 @@
 -- `hallanupp_files_verdict` meets its contract. Assumes nothing.
 use mathlib.Core.Path.{ap, _∙_}
 use Rattle.files.proofs.InTurn.{verdict-is}
-use Rattle.hallanupp.specs.Verdicts.{inC}
+use Rattle.hallanupp.specs.VerdictInC.{inC}
 use borrow.Author.Needs.{needs}
 use Rattle.hallanupp.proofs.hallanupp_files_verdict.Statement.{statement}
 use Rattle.hallanupp.proofs.hallanupp_files_verdict.Tie as tie

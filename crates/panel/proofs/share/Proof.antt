@@ -3,7 +3,7 @@ use mathlib.Core.Path.{refl}
 use native.Mathlib.Omega.{arith}
 use borrow.Author.Needs.{needs}
 use Rattle.rules.specs.Panel.{share}
-use Rattle.panel.proofs.Exact.{share-exact}
+use Rattle.panel.proofs.ExactShare.{share-exact}
 use Rattle.panel.proofs.share.Statement.{statement}
 use Rattle.panel.proofs.share.Tie as tie
 

@@ -1,7 +1,7 @@
 -- `session::nothing_done` meets its contract. Assumes nothing.
 use mathlib.Core.Path.{refl}
 use Rattle.rules.specs.Values.{padded}
-use Rattle.session.specs.Answer.{nothingAnswered}
+use Rattle.session.specs.SessionAnswered.{nothingAnswered}
 use Rattle.session.proofs.nothing_done.Statement.{statement}
 use Rattle.session.proofs.nothing_done.Tie as tie
 

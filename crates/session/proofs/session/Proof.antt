@@ -11,7 +11,7 @@ use Rattle.rules.specs.Values.{linesHeld}
 use Rattle.table.proofs.Test.{lines-in}
 use Rattle.arrivals.specs.Places.{logOf}
 use Rattle.files.specs.Told.{FilesTaken}
-use Rattle.session.specs.Answer.{answered}
+use Rattle.session.specs.SessionAnswered.{answered}
 use Rattle.session.proofs.ByCases.{files-refused, wall-short, own-short}
 use Rattle.session.proofs.Played.{refused-all, playable, plays-it}
 use borrow.Author.Needs.{needs}

@@ -7,7 +7,7 @@ use Rattle.rules.specs.SoloPart.{solo}
 use Rattle.rules.specs.Values.{lineHeld}
 use Rattle.solo.specs.Alone.{Plays}
 use Rattle.arrivals.specs.Places.{waitingAt}
-use Rattle.arrivals.proofs.Places.{first-place}
+use Rattle.arrivals.proofs.PlaceLaws.{first-place}
 use Rattle.rules.proofs.Held.{zeros}
 use Rattle.solo.proofs.Playing.{starts, none-written, length-part, written-more}
 use Rattle.solo.proofs.write_part.Statement.{statement}

@@ -3,7 +3,7 @@ use mathlib.Core.Path.{sym}
 use native.Mathlib.Omega.{arith}
 use lib.Seq.{length-take-le}
 use Rattle.printing.proofs.Pieces.{then}
-use Rattle.text.specs.Answer.{answerText}
+use Rattle.text.specs.TextAnswered.{answerText}
 use Rattle.printing.proofs.LineLengths.{number-line-ends, record-line-ends}
 use Rattle.text.proofs.BoothLines.{booth-lines-end}
 use borrow.Author.Needs.{needs}

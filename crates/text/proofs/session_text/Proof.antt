@@ -4,9 +4,9 @@ use native.Mathlib.Omega.{arith}
 use Prim.Native.Nat.{ℕ}
 use lib.ListN.{length, length-replicate}
 use Rattle.rules.specs.Desk as page
-use Rattle.session.specs.Answer.{answered}
+use Rattle.session.specs.SessionAnswered.{answered}
 use Rattle.printing.specs.Put.{Put}
-use Rattle.text.specs.Answer.{answerText}
+use Rattle.text.specs.TextAnswered.{answerText}
 use Rattle.text.proofs.Printed.{desk-outcome, answer-fits, table-prints, log-prints, call-prints, session-prints}
 use borrow.Author.Needs.{needs}
 use Rattle.text.proofs.session_text.Statement.{statement}

@@ -4,7 +4,8 @@ use mathlib.Core.Logic.{⊎-elim}
 use Prim.Native.Nat.{_+_, _-_, _≤_, _<_}
 use native.Mathlib.Omega.{arith}
 use lib.ListN.{length, getD, set}
-use Rattle.booth.specs.BoothHeld.{demanding, firstOf}
+use Rattle.rules.specs.Moves.{firstTask}
+use Rattle.booth.specs.BoothHeld.{demanding}
 use Rattle.booth.proofs.Demand.{demand-or-none, first-earlier, first-same}
 use borrow.Author.Needs.{needs}
 use Rattle.booth.proofs.Booth.add.Statement.{statement}
@@ -41,8 +42,8 @@ returns-2 c =
     let ds = c .before .before .args .t1 .demand in
     let k = c .before .before .args .k in
     let x = getD ds k 0 + c .before .before .args .d in
-    let same : firstOf (set ds k x) ≡ firstOf ds =
-    ⊎-elim (λ w. absurd (omega (arith, w .1))) (λ w. first-same ds (firstOf ds) k x (w .1) (omega arith) (omega arith) (omega arith)) (demand-or-none ds) in
+    let same : firstTask 0 (set ds k x) ≡ firstTask 0 ds =
+    ⊎-elim (λ w. absurd (omega (arith, w .1))) (λ w. first-same ds (firstTask 0 ds) k x (w .1) (omega arith) (omega arith) (omega arith)) (demand-or-none ds) in
     rw (same, ← c .before .before .pre .4)
 
 pub add-spec : {M : Type 1} → statement M

@@ -11,7 +11,7 @@ use Rattle.laws.proofs.DueLaws.{due-step, due-at-most}
 use Rattle.booth.specs.declared.Chosen.the-variants.{Task}
 use Rattle.booth.specs.BoothHeld.{shown, settledAnswer, asked}
 use Rattle.booth.proofs.RowWritten.{agree-later}
-use Rattle.booth.proofs.Asking.{chosen-first, asked-rests, asked-works, wakes-fits}
+use Rattle.booth.proofs.OneTurn.{chosen-first, asked-rests, asked-works, wakes-fits}
 use borrow.Author.Needs.{needs}
 use Rattle.booth.proofs.Booth.ask.Statement.{statement}
 use Rattle.booth.proofs.Booth.ask.Tie as tie

@@ -1,6 +1,6 @@
 -- `Booth::open` meets its contract. Assumes nothing.
 use Rattle.table.proofs.Test.{fit-sound}
-use Rattle.arrivals.proofs.Places.{first-place}
+use Rattle.arrivals.proofs.PlaceLaws.{first-place}
 use Rattle.booth.proofs.FreshBooth.{open-fit, open-fresh}
 use Rattle.booth.proofs.Booth.open.Statement.{statement}
 use Rattle.booth.proofs.Booth.open.Tie as tie

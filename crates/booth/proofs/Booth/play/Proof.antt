@@ -6,14 +6,13 @@ use lib.ListN.{length, getD, set}
 use lib.Seq.{drop-set-lt}
 use Rattle.booth.specs.declared.Booth.{Booth}
 use Rattle.booth.specs.BoothHeld.{Steady}
-use Rattle.booth.proofs.Demand.{First}
+use Rattle.rules.proofs.FirstDemand.{First}
 use Rattle.booth.proofs.Working.{worked, held-first, shown-worked, after-play, first-stays}
 use borrow.Author.Needs.{needs}
 use Rattle.booth.proofs.Booth.play.Statement.{statement}
 use Rattle.booth.proofs.Booth.play.Tie as tie
 use Rattle.booth.proofs.Booth.play.Reads as reads
 use Rattle.booth.proofs.Booth.play.Lts as lts
-use Rattle.booth.proofs.first_task.Reads as first-task-reads
 
 -- the task that is played is the first with demand
 first-here : (h : Booth) (k : ℕ) → Steady h → k < 8 → k ≡ h .first → First (h .demand) k

@@ -29,7 +29,7 @@ returns-2 c =
     let fits = due-fits bs t h row h row s (st .pre .3) in
     let test = sym (c .before .before .before .takes .ensures) ∙ c .before .before .if1 .left in (
       record { fit = s .fit; stays = s .stays; grown = omega arith; cap = st .pre .4 },
-      (λ l q. settled-busy bs t h row h row s (fits .0) (st .pre .0) (st .pre .1) (st .pre .4) test l q (λ e. omega (arith, e, c .if2 .taken)), refl),
+      (λ l q. settled-busy bs t h row h row s (fits .0) (st .pre .0) (st .pre .1) (st .pre .4) test l q (c .if2 .taken), refl),
     )
 
 catch-up-requires-2 : tie.Need-catch-up-requires-2

@@ -4,9 +4,10 @@ use Prim.Native.Nat.{ℕ, _+_, _-_, _≤_, _<_}
 use native.Mathlib.Omega.{arith}
 use lib.ListN.{length, getD, set}
 use Rattle.rules.specs.InRange.{Sound}
-use Rattle.arrivals.proofs.Places.{whole-entry}
+use Rattle.arrivals.proofs.PlaceLaws.{whole-entry}
 use Rattle.booth.specs.declared.Booth.{Booth}
-use Rattle.booth.specs.BoothHeld.{firstOf, shown, Looked, lookingAt, demanding, clockAt}
+use Rattle.rules.specs.Moves.{firstTask}
+use Rattle.booth.specs.BoothHeld.{shown, Looked, lookingAt, demanding, clockAt}
 use Rattle.booth.proofs.Taking.{entryOf, added, own-task, shown-taken, fit-taken}
 use borrow.Author.Needs.{needs}
 use Rattle.booth.proofs.Booth.take_next.Statement.{statement}
@@ -37,7 +38,7 @@ add-requires c κs =
       omega (arith, d .0, start .pre .0 .0 .demands (h .at) (fit .waits .place) more),
       ap length ds ∙ fit .steady .eight,
       rw ds (omega (arith, d .1, fit .room (c .before .before .before .before .before .before .entry-task .result))),
-      ap (λ (x : Booth). x .first) moved ∙ fit .steady .first ∙ ap firstOf (sym ds),
+      ap (λ (x : Booth). x .first) moved ∙ fit .steady .first ∙ ap (firstTask 0) (sym ds),
     )
 
 add-look : tie.Need-add-look

@@ -1,7 +1,7 @@
 -- `in_c` meets its contract: each arm is a case of the definition. Assumes nothing.
 use mathlib.Core.Path.{_∙_}
 use Rattle.rules.specs.declared.Refused.the-variants.{Nothing, TheTable, TheLog, TheCall}
-use Rattle.hallanupp.specs.Verdicts.{whatInC}
+use Rattle.hallanupp.specs.VerdictInC.{whatInC}
 use Rattle.hallanupp.proofs.InC.{told}
 use borrow.Author.Needs.{needs}
 use Rattle.hallanupp.proofs.parts.in_c.Statement.{statement}

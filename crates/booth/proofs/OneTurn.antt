@@ -10,7 +10,7 @@ use borrow.Author.Tests.{ltb-true, eqb-false}
 use Rattle.rules.specs.declared.Promise.{Promise}
 use Rattle.rules.specs.BoothTable.{Line}
 use Rattle.rules.specs.Due.{due, playableFrom}
-use Rattle.rules.specs.Moves.{Booth, firstTask, settle, mayWork, work}
+use Rattle.rules.specs.Moves.{Booth, nobody, firstTask, settle, mayWork, work}
 use Rattle.rules.specs.InRange.{Sound}
 use Rattle.laws.proofs.DueLaws.{playable-soon}
 use Rattle.booth.specs.declared.Booth.{Booth as HeldBooth}
@@ -58,8 +58,8 @@ pub chosen-first : (l : Line) (bs : List ℕ) (t : ℕ) (h : HeldBooth) (row : L
     → (k < 8) × (k ≡ h .first) × (h .clock .0 < due (h .promise) (suc t))
 unfolding shown
 chosen-first l bs t h row k s p e =
-    let may = both-held (eqb (h .first) 8) (ltb (h .clock .0) (due (h .promise) (suc t))) (sym (may-held l bs h row s p t) ∙ works t (shown l bs h row) k e) in
-    let busy : h .first ≡ 8 → ⊥ = eqb-false (h .first) 8 (may .0) in
+    let may = both-held (eqb (h .first) nobody) (ltb (h .clock .0) (due (h .promise) (suc t))) (sym (may-held l bs h row s p t) ∙ works t (shown l bs h row) k e) in
+    let busy : h .first ≡ nobody → ⊥ = eqb-false (h .first) nobody (may .0) in
     let task : Task (firstTask 0 (take (h .tasks) (h .demand))) ≡ Task k = sym (told t (shown l bs h row) (works t (shown l bs h row) k e)) ∙ e in
     let same : firstTask 0 (take (h .tasks) (h .demand)) ≡ k = cc in
     let first : k ≡ h .first = sym same ∙ task-held l bs h row s p busy in

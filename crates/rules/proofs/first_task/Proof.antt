@@ -1,15 +1,15 @@
--- `booth::first_task` meets its contract: the tasks passed have no demand. Assumes nothing.
+-- `rules::first_task` meets its contract: the tasks passed have no demand. Assumes nothing.
 use mathlib.Core.Path.{_≡_, sym, _∙_}
 use Prim.Native.Nat.{ℕ, _+_, _-_, _≤_, _<_}
 use native.Mathlib.Omega.{arith}
 use borrow.Author.Count.{below-none, below-more}
 use borrow.Author.Needs.{needs}
 use lib.ListN.{length, getD}
-use Rattle.booth.proofs.Demand.{is-first, first-is, no-first}
-use Rattle.booth.proofs.first_task.Statement.{statement}
-use Rattle.booth.proofs.first_task.Tie as tie
-use Rattle.booth.proofs.first_task.Reads as reads
-use Rattle.booth.proofs.first_task.Lts as lts
+use Rattle.rules.proofs.FirstDemand.{is-first, first-here, no-demand, none-first}
+use Rattle.rules.proofs.first_task.Statement.{statement}
+use Rattle.rules.proofs.first_task.Tie as tie
+use Rattle.rules.proofs.first_task.Reads as reads
+use Rattle.rules.proofs.first_task.Lts as lts
 
 abbrev Inv-loop : tie.InvT-loop
 Inv-loop demand k₀ k = (k ≤ 8) × ((j : ℕ) → j < k → getD demand j 0 ≡ 0)
@@ -27,7 +27,7 @@ array-read-if1 : tie.Need-array-read-if1 Inv-loop μ-loop
 array-read-if1 c = search needs
 
 returns : tie.Need-returns Inv-loop μ-loop
-returns c = sym (first-is (c .before .before .before .args .t1) (c .before .before .loop .k) (is-first (c .before .before .before .args .t1) (c .before .before .loop .k) (c .if1 .taken) (c .before .before .loop .inv .1)))
+returns c = sym ((first-here (c .before .before .before .args .t1) (c .before .before .loop .k) (is-first (c .before .before .before .args .t1) (c .before .before .loop .k) (c .if1 .taken) (c .before .before .loop .inv .1))) .1)
 
 add-k : tie.Need-add-k Inv-loop μ-loop
 add-k c = search needs
@@ -38,11 +38,13 @@ loop-less c = search needs
 loop-again : tie.Need-loop-again Inv-loop μ-loop
 loop-again c = (search needs, below-more _ _ (c .before .before .loop .inv .1) (omega (arith, c .if1 .left)))
 
+cast-result : tie.Need-cast-result Inv-loop μ-loop
+cast-result c = search needs
+
 returns-2 : tie.Need-returns-2 Inv-loop μ-loop
 returns-2 c =
     let n = c .before .loop in
-    let eight : n .k ≡ 8 = omega arith in
-    eight ∙ sym (no-first (c .before .before .args .t1) (λ j h. n .inv .1 j (omega arith)))
+    sym (none-first (c .before .before .args .t1) (no-demand (c .before .before .args .t1) (λ j h. n .inv .1 j (omega arith))))
 
 pub first-task-spec : {M : Type 1} → statement M
 first-task-spec =
@@ -57,4 +59,5 @@ first-task-spec =
     add-k
     loop-less
     loop-again
+    cast-result
     returns-2)
