@@ -53,6 +53,7 @@ fn play_all(table: Table, log: &[u8], wall: &mut [u8], own: &mut [u8], h: usize)
     let booths = engine::close(played, n, log, own, h);
     let clocks = clocks_of(booths, n);
     let worked = stage.worked;
+    let horizon = h as u32;
     SessionAnswer {
         verdict: Verdict {
             refused: Refused::Nothing,
@@ -61,7 +62,7 @@ fn play_all(table: Table, log: &[u8], wall: &mut [u8], own: &mut [u8], h: usize)
                 place: 0,
             },
         },
-        horizon: h as u32,
+        horizon,
         booths: n,
         clocks,
         worked,

@@ -31,8 +31,8 @@ close-requires c κs =
 clocks-of-requires : tie.Need-clocks-of-requires
 clocks-of-requires c κs = search needs
 
-cast-t22 : tie.Need-cast-t22
-cast-t22 c = search needs
+cast-horizon : tie.Need-cast-horizon
+cast-horizon c = search needs
 
 same-length : tie.Need-same-length
 same-length c = search needs
@@ -68,7 +68,7 @@ play-all-spec =
     run-requires
     close-requires
     clocks-of-requires
-    cast-t22
+    cast-horizon
     same-length
     same-length-2
     returns)
