@@ -1,13 +1,17 @@
 -- The first task with demand, and that there is none. Assumes nothing.
-use mathlib.Core.Path.{_≡_, refl, sym, _∙_, subst}
-use mathlib.Core.Bool.{true, false, true≢false}
+use mathlib.Core.Path.{_≡_, refl, sym, ap, _∙_, subst}
+use mathlib.Core.Bool.{Bool, true, false, true≢false}
 use mathlib.Core.List.{List, [], _∷_}
 use Prim.Native.Nat.{ℕ, zero, suc, _+_, _≤_, suc-le-suc, _<_}
 use native.Mathlib.Decide.{decLe}
-use native.Mathlib.Nat.{not-suc-le-zero, le-of-suc-le-suc, add-zero, zero-add}
+use native.Mathlib.Nat.{not-suc-le-zero, le-of-suc-le-suc, add-zero, add-suc, suc-add, zero-add}
 use native.Mathlib.Omega.{arith}
+use lib.Dec.{ltb}
 use lib.ListN.{length, getD, List·getD-eq-default}
+use borrow.Author.Tests.{lt-ltb}
 use Rattle.rules.specs.Moves.{nobody, noDemand, firstTask}
+use Rattle.rules.specs.SoloPart.{firstThat}
+use Rattle.rules.proofs.FirstThat.{hit, miss}
 
 -- task k is the first with demand
 pub record First (ds : List ℕ) (k : ℕ) : Type 0 where
@@ -69,3 +73,18 @@ is-first ds k some before = record { there = there (decLe (length ds) k); some =
     there : Dec (length ds ≤ k) → k < length ds
     there (yes h) = absurd (omega (arith, List·getD-eq-default ds 0 {n = k} h))
     there (no h) = omega arith
+
+-- with no demand from task m on, the first task with demand is the first of m tasks that passes the test for it
+that-from : (test : ℕ → Bool) (m i : ℕ) (ds : List ℕ) → ((k : ℕ) → test (i + k) ≡ ltb 0 (getD ds k 0)) → ((k : ℕ) → m ≤ k → getD ds k 0 ≡ 0) → firstTask i ds ≡ firstThat test m i
+unfolding firstTask firstThat
+that-from test zero i ds t z = none-from i ds (no-demand ds (λ j h. z j (omega arith)))
+that-from test (suc m) i [] t z =
+    that-from test m (suc i) [] (λ k. ap test (suc-add i k ∙ sym (add-suc i k)) ∙ t (suc k)) (λ k h. refl)
+    ∙ sym (miss test m i (ap test (sym (add-zero i)) ∙ t 0))
+that-from test (suc m) i (zero ∷ ds) t z =
+    that-from test m (suc i) ds (λ k. ap test (suc-add i k ∙ sym (add-suc i k)) ∙ t (suc k)) (λ k h. z (suc k) (suc-le-suc h))
+    ∙ sym (miss test m i (ap test (sym (add-zero i)) ∙ t 0))
+that-from test (suc m) i (suc d ∷ ds) t z = sym (hit test m i (ap test (sym (add-zero i)) ∙ t 0 ∙ lt-ltb 0 (suc d) (omega arith)))
+
+pub first-that : (m : ℕ) (ds : List ℕ) → ((k : ℕ) → m ≤ k → getD ds k 0 ≡ 0) → firstTask 0 ds ≡ firstThat (λ k. ltb 0 (getD ds k 0)) m 0
+first-that m ds z = that-from (λ k. ltb 0 (getD ds k 0)) m 0 ds (λ k. ap (λ j. ltb 0 (getD ds j 0)) (zero-add k)) z

@@ -17,7 +17,7 @@ use Rattle.base.specs.Bytes.{written}
 use Rattle.rules.specs.BoothTable.{Line}
 use Rattle.rules.specs.ArrivalLog.{Entry, entryAt}
 use Rattle.rules.specs.Due.{releasePoint}
-use Rattle.rules.specs.Moves.{nobody}
+use Rattle.rules.specs.Moves.{nobody, firstTask}
 use Rattle.rules.specs.Session.{count}
 use Rattle.rules.specs.SoloPart.{asked, firstThat, solo}
 use Rattle.rules.specs.Values.{lineHeld}
@@ -29,6 +29,7 @@ use Rattle.solo.specs.Alone.{Alone, Point, Plays, Admitted, Passed, ownT
 use Rattle.arrivals.specs.Places.{waitingAt, Place}
 use Rattle.arrivals.proofs.PlaceLaws.{first-place, whole-entry, waiting-own, waiting-other}
 use Rattle.solo.proofs.AskedSoFar.{asked-task, asked-elsewhere, none-asked}
+use Rattle.rules.proofs.FirstDemand.{first-that}
 use Rattle.rules.proofs.FirstThat.{found, alike}
 
 -- a store at one task
@@ -49,6 +50,7 @@ module _ (bs : List ℕ) (line : HeldLine) (booth : ℕ) (a : Alone bs line boot
     place = first-place (a .log);
     point = p;
     eight = e;
+    rest = λ k h. z k;
     room = λ k. omega (arith, z k, a .log .short);
     sums = λ n k h j. omega (arith, z k, count-nil k);
   }
@@ -73,6 +75,7 @@ module _ (bs : List ℕ) (line : HeldLine) (booth : ℕ) (a : Alone bs line boot
     Kept : Type 0
     Kept =
         (length (r .left) ≡ 8)
+        × ((k : ℕ) → line .tasks ≤ k → getD (r .left) k 0 ≡ getD (p .left) k 0)
         × ((k : ℕ) → getD (r .left) k 0 ≤ getD (p .left) k 0 + 65535)
         × ((n k : ℕ) → u ≤ n → getD (r .left) k 0 + asked l (waitingAt bs booth (p .next + 9)) n k ≡ getD (p .left) k 0 + asked l (waitingAt bs booth (p .next)) n k)
 
@@ -80,12 +83,16 @@ module _ (bs : List ℕ) (line : HeldLine) (booth : ℕ) (a : Alone bs line boot
     unfolding Kept releasePoint lineHeld
     kept-own own = (
       ap length (passed .own own .1) ∙ length-set (p .left) (e .task) asks-task ∙ plays .eight,
+      (λ k h. elsewhere k (λ q. absurd (omega (arith, below)))),
       (λ k. more k (ℕ-discrete k (e .task))),
       λ n k h. sums n k h (ℕ-discrete k (e .task)),
     )
       where
+        below : e .task < line .tasks
+        below = a .task (p .next) (plays .place) inside own
+
         within : e .task < length (p .left)
-        within = omega (arith, a .task (p .next) (plays .place) inside own, a .tasks, plays .eight)
+        within = omega (arith, below, a .tasks, plays .eight)
 
         here : (k : ℕ) → k ≡ e .task → getD (r .left) k 0 ≡ getD (p .left) k 0 + e .demand
         here k q =
@@ -112,6 +119,7 @@ module _ (bs : List ℕ) (line : HeldLine) (booth : ℕ) (a : Alone bs line boot
     kept-other o =
         let left : r .left ≡ p .left = passed .other o in (
           ap length left ∙ plays .eight,
+          (λ k h. ap (λ xs. getD xs k 0) left),
           (λ k. omega (arith, ap (λ xs. getD xs k 0) left)),
           λ n k h. omega (arith, ap (λ xs. getD xs k 0) left, ap (λ xs. asked l xs n k) (waiting-other bs booth (p .next) (plays .place) inside o)),
         )
@@ -129,8 +137,9 @@ module _ (bs : List ℕ) (line : HeldLine) (booth : ℕ) (a : Alone bs line boot
           place = subst (Place bs) (sym (passed .next)) (whole .1);
           point = subst (λ i. Point bs line i (r .point .0)) (sym (passed .next)) (passed .point);
           eight = k .0;
-          room = λ j. omega (arith, passed .next, whole .0, k .1 j, plays .room j);
-          sums = λ n j h i. omega (arith, plays .sums n j h i, k .2 n j h, ap (λ x. asked l (waitingAt bs booth x) n j) (passed .next));
+          rest = λ j h. k .1 j h ∙ plays .rest j h;
+          room = λ j. omega (arith, passed .next, whole .0, k .2 j, plays .room j);
+          sums = λ n j h i. omega (arith, plays .sums n j h i, k .3 n j h, ap (λ x. asked l (waitingAt bs booth x) n j) (passed .next));
         }
 
   -- ---- one own tick
@@ -160,20 +169,22 @@ module _ (bs : List ℕ) (line : HeldLine) (booth : ℕ) (a : Alone bs line boot
         go (no z) s = lt-ltb 0 (getD (p .left) k 0) (omega arith) ∙ sym (lt-ltb (count k (solo l es u)) (asked l es u k) (omega arith))
 
     -- the first task with something left is the one that the solo part plays
-    pub picked : firstThat (λ k. ltb 0 (getD (p .left) k 0)) (line .tasks) 0 ≡ tick
+    pub picked : firstTask 0 (p .left) ≡ tick
     unfolding ownTick
     picked =
-        alike (λ k. ltb 0 (getD (p .left) k 0)) (λ k. ltb (count k (solo l es u)) (asked l es u k)) (line .tasks) 0 (λ k h. asks k (omega arith))
+        first-that (line .tasks) (p .left) (now .plays .rest)
+        ∙ alike (λ k. ltb 0 (getD (p .left) k 0)) (λ k. ltb (count k (solo l es u)) (asked l es u k)) (line .tasks) 0 (λ k h. asks k (omega arith))
         ∙ ap (λ m. firstThat (λ k. ltb (count k (solo l es u)) (asked l es u k)) m 0) (sym tasks-are)
 
     pub task-picked : tick ≢ nobody → (tick < line .tasks) × (0 < getD (p .left) tick 0)
-    task-picked some = go (found (λ k. ltb 0 (getD (p .left) k 0)) (line .tasks) 0)
+    unfolding ownTick
+    task-picked some = go (found (λ k. ltb (count k (solo l es u)) (asked l es u k)) (length (l .longest)) 0)
       where
-        go : (firstThat (λ k. ltb 0 (getD (p .left) k 0)) (line .tasks) 0 ≡ nobody)
-            ⊎ ((firstThat (λ k. ltb 0 (getD (p .left) k 0)) (line .tasks) 0 < 0 + line .tasks) × (ltb 0 (getD (p .left) (firstThat (λ k. ltb 0 (getD (p .left) k 0)) (line .tasks) 0) 0) ≡ true))
-            → (tick < line .tasks) × (0 < getD (p .left) tick 0)
-        go (inl z) = absurd (some (sym picked ∙ z))
-        go (inr z) = (omega (arith, picked, z .0), ltb-true 0 (getD (p .left) tick 0) (ap (λ k. ltb 0 (getD (p .left) k 0)) (sym picked) ∙ z .1))
+        go : (tick ≡ nobody) ⊎ ((tick < 0 + length (l .longest)) × (ltb (count tick (solo l es u)) (asked l es u tick) ≡ true)) → (tick < line .tasks) × (0 < getD (p .left) tick 0)
+        go (inl z) = absurd (some z)
+        go (inr z) =
+            let below : tick < line .tasks = omega (arith, tasks-are, z .0) in
+            (below, ltb-true 0 (getD (p .left) tick 0) (asks tick below ∙ z .1))
 
     pub tick-small : tick ≤ nobody
     tick-small = go (ℕ-discrete tick nobody)
@@ -192,6 +203,7 @@ module _ (bs : List ℕ) (line : HeldLine) (booth : ℕ) (a : Alone bs line boot
       place = now .plays .place;
       point = now .plays .point;
       eight = e;
+      rest = λ k h. omega (arith, now .plays .rest k h, less k);
       room = λ k. omega (arith, now .plays .room k, less k);
       sums = λ n k h j. omega (arith, now .plays .sums n k (omega arith) j, lost k j, ap (count k) solo-step, count-append k (solo l es u) (tick ∷ []));
     }

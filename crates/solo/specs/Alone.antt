@@ -37,11 +37,12 @@ pub record Point (bs : List ℕ) (line : HeldLine) (at point : ℕ) : Type 0 whe
   pub none : length bs ≤ at → point ≡ never
   pub some : at < length bs → point ≡ due (line .promise) ((entryAt bs at) .tick)
 
--- u own ticks are played. What the booth's entries ask from then on is left, or was played, or is asked by entries that still wait
+-- u own ticks are played. What the booth's entries ask from then on is left, or was played, or is asked by entries that still wait; past its tasks nothing is left
 pub record Plays (bs : List ℕ) (line : HeldLine) (booth u : ℕ) (p : Player) : Type 0 where
   pub place : Place bs (p .next)
   pub point : Point bs line (p .next) (p .point .0)
   pub eight : length (p .left) ≡ 8
+  pub rest : (k : ℕ) → line .tasks ≤ k → getD (p .left) k 0 ≡ 0
   pub room : (k : ℕ) → getD (p .left) k 0 * 9 + 65535 * (length bs - p .next) ≤ 65535 * 36873
   pub sums : (n k : ℕ) → u ≤ n → k < line .tasks
       → asked (lineHeld line) (waitingAt bs booth 9) n k

@@ -2,7 +2,6 @@
 ghost use mathlib.Core.Path.{_≡_};
 ghost use mathlib.Core.List.{List};
 ghost use Prim.Native.Nat.{ℕ, _+_, _*_, _≤_, _<_};
-ghost use lib.Dec.{ltb};
 ghost use lib.ListN.{length, getD, set};
 ghost use Rattle.base.specs.Bytes.{written};
 ghost use Rattle.rules.specs.Due.{due};
@@ -51,21 +50,6 @@ fn point_of(log: &[u8], line: Line, at: usize) -> OwnTick
     rules::due(promise, tick)
 }
 
-// The first task with something left to play; nobody, with none.
-fn first_left(left: [u32; TASKS_ALLOWED], tasks: usize) -> usize
-    requires { ⌜ tasks ≤ 8 ⌝ }
-    ensures { λ r. ⌜ r ≡ page.firstThat (λ k. ltb 0 (getD left k 0)) tasks 0 ⌝ }
-{
-    let mut k = 0;
-    while k < tasks {
-        if 0 < left[k] {
-            return k;
-        }
-        k += 1;
-    }
-    NOBODY
-}
-
 impl Player {
     // The next entry is passed, and asks its task if it is the booth's.
     fn pass(mut self, log: &[u8], booth: usize, line: Line) -> Self
@@ -102,7 +86,7 @@ impl Player {
     {
         self = self.admit(log, booth, line, u);
         let left = self.left;
-        let task = first_left(left, line.tasks);
+        let task = rules::first_task(left);
         part[u.0 as usize] = task as u8;
         if task != NOBODY {
             self.left[task] = self.left[task] - 1;

@@ -14,15 +14,15 @@ use Rattle.solo.proofs.Player.play.Tie as tie
 admit-requires : tie.Need-admit-requires
 admit-requires c κs = search needs
 
-first-left-requires : tie.Need-first-left-requires
-first-left-requires c κs = search needs
+first-task-requires : tie.Need-first-task-requires
+first-task-requires c κs = search needs
 
 -- what is found is the solo part's own tick
-is-tick : (c : tie.After-first-left) → c .first-left .result ≡ ownTick (lineHeld (c .before .before .before .before .before .args .line)) (waitingAt (c .before .before .before .before .before .args .log .now) (c .before .before .before .before .before .args .booth) 9) (c .before .before .before .before .before .args .u .0)
-is-tick c = c .first-left .ensures ∙ picked _ _ _ (c .before .before .before .before .before .pre .0) _ _ (c .before .before .admit .ensures)
+is-tick : (c : tie.After-first-task) → c .first-task .result ≡ ownTick (lineHeld (c .before .before .before .before .before .args .line)) (waitingAt (c .before .before .before .before .before .args .log .now) (c .before .before .before .before .before .args .booth) 9) (c .before .before .before .before .before .args .u .0)
+is-tick c = c .first-task .ensures ∙ picked _ _ _ (c .before .before .before .before .before .pre .0) _ _ (c .before .before .admit .ensures)
 
 -- where it is a task, the task is one of the eight and has something left
-is-task : (c : tie.Then1) → (c .before .before .first-left .result < 8) × (0 < getD (c .before .before .before .before .admit .result .left) (c .before .before .first-left .result) 0)
+is-task : (c : tie.Then1) → (c .before .before .first-task .result < 8) × (0 < getD (c .before .before .before .before .admit .result .left) (c .before .before .first-task .result) 0)
 is-task c =
     let start = c .before .before .before .before .before .before .before in
     let is = is-tick (c .before .before) in
@@ -81,7 +81,7 @@ play-spec =
     tie.close
     (tie.spec
     admit-requires
-    first-left-requires
+    first-task-requires
     cast-part
     cast-part-2
     slice-write-part
