@@ -13,6 +13,7 @@ ghost use Rattle.rules.specs.InRange.{Sound};
 ghost use Rattle.table.specs.Fit.{FitLine};
 ghost use Rattle.arrivals.specs.Places.{waitingAt, Place, WholeLog};
 ghost use Rattle.booth.specs.BoothHeld.{absentBooth, shown, settledAnswer, asked, takesNext, takenNext, wakesAt, Found, Looked, Steady, Fit, Stays, AfterSettle, AfterPlay, AfterAsk, demanding, clockAt, lengthened};
+use arrivals::FIRST_ENTRY;
 use rules::ENTRY_BYTES;
 use rules::Line;
 use rules::NOBODY;
@@ -117,13 +118,13 @@ impl Booth {
             tasks: line.tasks,
             demand: [0; TASKS_ALLOWED],
             first: NO_TASK,
-            at: 9,
+            at: FIRST_ENTRY,
             promise,
             clock: OwnTick(0),
             tick: WallTick(NEVER),
             point: OwnTick(0),
         };
-        booth.look(log, 9)
+        booth.look(log, FIRST_ENTRY)
     }
 
     // The booth with its first waiting entry at `from` or behind it.
