@@ -1,8 +1,8 @@
--- The panel case by case, and the count that its loop keeps. Assumes nothing.
+-- The panel case by case, and the counts that its loops keep. Assumes nothing.
 use mathlib.Core.Path.{_≡_, refl, sym, ap, _∙_, subst}
-use mathlib.Core.List.{List, [], _∷_}
+use mathlib.Core.List.{List, [], _∷_, _++_}
 use mathlib.Core.Option.{Option, none, some}
-use Prim.Native.Nat.{ℕ, _+_, _^_, _≤_, _<_}
+use Prim.Native.Nat.{ℕ, suc, _+_, _-_, _^_, _≤_, _<_}
 use native.Mathlib.Nat.{le-trans, lt-of-le-of-lt, lt-irrefl}
 use native.Mathlib.Numerals.{add-one}
 use native.Mathlib.Omega.{arith}
@@ -10,8 +10,8 @@ use borrow.Author.Tests.{eq-eqb, ne-eqb, lt-ltb, le-ltb, le-leb, lt-leb, ltb-fal
 use lib.Dec.{lit<}
 use lib.Pow.{pow-pos}
 use lib.Ieee.{Float}
-use lib.ListN.{length, take, getD, length-take}
-use lib.Seq.{take-suc}
+use lib.ListN.{length, take, drop, getD, length-take, take-append-drop}
+use lib.Seq.{take-suc, take-add}
 use Rattle.rules.specs.declared.Promise.{Promise}
 use Rattle.base.specs.declared.Refusal.{Refusal}
 use Rattle.rules.specs.declared.Refused.{Refused}
@@ -24,31 +24,41 @@ use Rattle.rules.specs.Due.{due}
 use Rattle.rules.specs.Session.{count}
 use Rattle.rules.specs.Panel.{share, no-share, none-yet, below, at-ceiling, over, readingOf, panelRow, noPanel, panelChecks, panel}
 use Rattle.base.proofs.Checks.{passed}
-use Rattle.rules.proofs.Counting.{count-append, count-most}
+use Rattle.rules.proofs.Counting.{count-nil, count-other, count-append, count-most, count-last-same, count-last-other}
 use Rattle.panel.specs.Exact.{ExactShare, ExactAtPowers, ExactPanel}
 use Rattle.panel.proofs.ExactShare.{share-exact}
 
--- ---- how often a number stands in one byte more
-
-pub count-none : (k : ℕ) (wall : List ℕ) → count k (take 0 wall) ≡ 0
-unfolding count
-count-none k wall = refl
+-- ---- how often a number stands in one byte more, and in one part more
 
 module _ (k : ℕ) (wall : List ℕ) (at : ℕ) (inside : at < length wall) where
-  byte-more : count k (take (at + 1) wall) ≡ count k (take at wall) + count k (getD wall at 0 ∷ [])
-  byte-more = ap (λ n. count k (take n wall)) (add-one at) ∙ ap (count k) (take-suc wall at 0 inside) ∙ count-append k (take at wall) (getD wall at 0 ∷ [])
+  byte-more : count k (take (at + 1) wall) ≡ count k (take at wall ++ (getD wall at 0 ∷ []))
+  byte-more = ap (λ n. count k (take n wall)) (add-one at) ∙ ap (count k) (take-suc wall at 0 inside)
 
   pub count-more : getD wall at 0 ≡ k → count k (take (at + 1) wall) ≡ count k (take at wall) + 1
-  unfolding count
-  count-more e =
-      let one : count k (getD wall at 0 ∷ []) ≡ 1 = rw (eq-eqb (getD wall at 0) k e, count) in
-      byte-more ∙ ap (λ n. count k (take at wall) + n) one
+  count-more e = omega (arith, byte-more, count-last-same k (getD wall at 0) (take at wall) e)
 
   pub count-same : (getD wall at 0 ≡ k → ⊥) → count k (take (at + 1) wall) ≡ count k (take at wall)
-  unfolding count
-  count-same e =
-      let none : count k (getD wall at 0 ∷ []) ≡ 0 = rw (ne-eqb (getD wall at 0) k e, count) in
-      omega (arith, byte-more)
+  count-same e = byte-more ∙ count-last-other k (getD wall at 0) (take at wall) e
+
+-- a number above every byte stands nowhere
+pub count-above : (k t : ℕ) (wall : List ℕ) → ((i : ℕ) → getD wall i 0 < k) → count k (take t wall) ≡ 0
+count-above k t wall all = omega (arith, count-append k (take t wall) (drop t wall), ap (count k) (take-append-drop t wall), nowhere wall all)
+  where
+    nowhere : (xs : List ℕ) → ((i : ℕ) → getD xs i 0 < k) → count k xs ≡ 0
+    nowhere [] all = count-nil k
+    nowhere (x ∷ xs) all = count-other k x xs (λ e. omega (arith, all 0)) ∙ nowhere xs (λ i. all (suc i))
+
+-- the bytes before `at`, and the part from `at` to `stop`
+pub count-part : (k : ℕ) (wall : List ℕ) (at stop : ℕ) {before here : ℕ} → before ≡ count k (take at wall) → here ≡ count k (take (stop - at) (drop at wall)) → at ≤ stop
+    → before + here ≡ count k (take stop wall)
+count-part k wall at stop b e h =
+    let split = ap (count k) (take-add at (stop - at) wall) ∙ count-append k (take at wall) (take (stop - at) (drop at wall)) in
+    let whole : at + (stop - at) ≡ stop = omega arith in
+    omega (arith, b, e, split, ap (λ n. count k (take n wall)) whole)
+
+-- no more is counted in a part than it has bytes
+pub count-within : (k : ℕ) (part : List ℕ) {here : ℕ} → here ≡ count k part → here ≤ length part
+count-within k part e = omega (arith, e, count-most k part)
 
 -- no more ticks are worked than pass
 pub worked-le : (k t : ℕ) (wall : List ℕ) → count k (take t wall) ≤ t

@@ -41,21 +41,45 @@ fn share(part: u32, whole: u32) -> f64
     part as f64 / whole as f64
 }
 
+// So many wall ticks are counted at a time: a byte can count them, and they are whole groups of the 32 that the compiler
+// takes in one turn.
+const BLOCK: usize = 224;
+
+// How often the booth stands in a part of the wall record. The count is as narrow as the bytes, so that the compiler
+// compares and counts sixteen of them in one register.
+fn worked_in(part: &[u8], booth: u8) -> u8
+    requires { ⌜ length (now part) ≤ 255 ⌝ }
+    ensures { λ r. ⌜ r ≡ session.count booth (now (part .entry)) ⌝ }
+{
+    let mut worked: u8 = 0;
+    let mut i: usize = 0;
+    while i < part.len() {
+        if part[i] == booth {
+            worked += 1;
+        }
+        i += 1;
+    }
+    worked
+}
+
 // How often the booth stands in the first `t` bytes.
 fn worked_ticks(wall: &[u8], booth: usize, t: u32) -> u32
     requires { ⌜ t ≤ length (now wall) ⌝ }
     ensures { λ r. ⌜ r ≡ session.count booth (take t (now (wall .entry))) ⌝ }
 {
+    // No byte is so large.
+    if 255 < booth {
+        return 0;
+    }
+    let number = booth as u8;
     let end = t as usize;
     let mut worked: u32 = 0;
     let mut at: usize = 0;
-    while at < end {
-        if base::wide(wall[at]) as usize == booth {
-            worked += 1;
-        }
-        at += 1;
+    while BLOCK <= end - at {
+        worked += base::wide(worked_in(&wall[at..at + BLOCK], number));
+        at += BLOCK;
     }
-    worked
+    worked + base::wide(worked_in(&wall[at..end], number))
 }
 
 fn reading_of(worked: u32, due: u32, got: f64) -> Reading

@@ -1,35 +1,56 @@
 -- `panel::worked_ticks` meets its contract. The loop's invariant: what is counted is how often the booth stands in the bytes passed.
 -- The measure is the bytes that are left. Assumes nothing.
-use mathlib.Core.Path.{_≡_, sym, ap, _∙_}
-use mathlib.Core.Logic.{⊎-elim}
-use Prim.Native.Nat.{_+_, _-_, _≤_, _<_}
+use mathlib.Core.Path.{_≡_, sym, _∙_}
+use Prim.Native.Nat.{_+_, _-_, _≤_}
 use native.Mathlib.Omega.{arith}
-use lib.ListN.{length, take}
+use borrow.Author.Needs.{needs}
+use lib.ListN.{take}
 use Rattle.rules.specs.Session.{count}
-use Rattle.panel.proofs.Cases.{count-none, count-more, count-same}
+use Rattle.rules.proofs.Counting.{count-nil}
+use Rattle.panel.proofs.Cases.{count-part, count-within, count-above}
 use Rattle.panel.proofs.worked_ticks.Statement.{statement}
 use Rattle.panel.proofs.worked_ticks.Tie as tie
 
 abbrev Inv-loop : tie.InvT-loop
-Inv-loop wall booth t end worked₀ at₀ worked at = (at ≤ t) × (worked ≤ at) × (worked ≡ count booth (take at wall))
+Inv-loop wall booth t number end worked₀ at₀ worked at = (at ≤ t) × (worked ≤ at) × (worked ≡ count booth (take at wall))
 
 abbrev μ-loop : tie.MeasureT-loop
-μ-loop wall booth t end worked₀ at₀ worked at = t - at
+μ-loop wall booth t number end worked₀ at₀ worked at = t - at
+
+returns : tie.Need-returns Inv-loop μ-loop
+returns c =
+    let a = c .before .before .args in
+    sym (count-above (a .booth) (a .t) (a .wall .now) (λ i. omega (arith, c .before .shared-slice-known .given i)))
+
+cast-number : tie.Need-cast-number Inv-loop μ-loop
+cast-number c = omega arith
 
 loop-holds : tie.Need-loop-holds Inv-loop μ-loop
-loop-holds c = (omega arith, omega arith, sym (count-none (c .before .args .booth) (c .before .args .wall .now)))
+loop-holds c = (omega arith, omega arith, sym (count-nil (c .before .before .args .booth)))
 
-shared-slice-read-wide : tie.Need-shared-slice-read-wide Inv-loop μ-loop
-shared-slice-read-wide c = omega arith
+sub-loop : tie.Need-sub-loop Inv-loop μ-loop
+sub-loop c = omega arith
+
+add-worked-in : tie.Need-add-worked-in Inv-loop μ-loop
+add-worked-in c = omega arith
+
+sub-worked-in : tie.Need-sub-worked-in Inv-loop μ-loop
+sub-worked-in c = omega arith
+
+part-worked-in-start : tie.Need-part-worked-in-start Inv-loop μ-loop
+part-worked-in-start c = omega arith
+
+part-worked-in-end : tie.Need-part-worked-in-end Inv-loop μ-loop
+part-worked-in-end c = omega arith
+
+worked-in-requires : tie.Need-worked-in-requires Inv-loop μ-loop
+worked-in-requires c κs = search needs
 
 wide-requires : tie.Need-wide-requires Inv-loop μ-loop
 wide-requires c κs = tt
 
-cast-if1 : tie.Need-cast-if1 Inv-loop μ-loop
-cast-if1 c = omega arith
-
 add-worked : tie.Need-add-worked Inv-loop μ-loop
-add-worked c = omega arith
+add-worked c = omega (arith, count-within _ _ (c .wide .ensures .0 ∙ c .before .worked-in .ensures))
 
 add-at : tie.Need-add-at Inv-loop μ-loop
 add-at c = omega arith
@@ -39,21 +60,32 @@ loop-less c = omega arith
 
 loop-again : tie.Need-loop-again Inv-loop μ-loop
 loop-again c =
-    let a = c .before .before .before .before .before .before .args in
     let at = c .before .before .before .before .loop .at in
-    let inside : at < length (a .wall .now) = omega arith in
-    let byte = sym (c .before .wide .ensures .0) in
-    let inv = c .before .before .before .before .loop .inv .2 in
-    ⊎-elim
-    (λ w. (omega arith, omega arith, w .1 ∙ ap (λ n. n + 1) inv ∙ sym (count-more (a .booth) (a .wall .now) at inside (byte ∙ w .0 .taken))))
-    (λ w. (omega arith, omega arith, w .1 ∙ inv ∙ sym (count-same (a .booth) (a .wall .now) at inside (λ e. w .0 .left (sym byte ∙ e)))))
-    (c .if1 .came)
+    let here = c .wide .ensures .0 ∙ c .before .worked-in .ensures in
+    (omega arith, omega (arith, count-within _ _ here), count-part _ _ at (at + 224) (c .before .before .before .before .loop .inv .2) here (omega arith))
 
-returns : tie.Need-returns Inv-loop μ-loop
-returns c =
-    let a = c .before .before .before .args in
-    let all : c .before .loop .at ≡ a .t = omega arith in
-    c .before .loop .inv .2 ∙ ap (λ n. count (a .booth) (take n (a .wall .now))) all
+sub-worked-in-2 : tie.Need-sub-worked-in-2 Inv-loop μ-loop
+sub-worked-in-2 c = omega arith
+
+part-worked-in-start-2 : tie.Need-part-worked-in-start-2 Inv-loop μ-loop
+part-worked-in-start-2 c = omega arith
+
+part-worked-in-end-2 : tie.Need-part-worked-in-end-2 Inv-loop μ-loop
+part-worked-in-end-2 c = omega arith
+
+worked-in-requires-2 : tie.Need-worked-in-requires-2 Inv-loop μ-loop
+worked-in-requires-2 c κs = search needs
+
+wide-requires-2 : tie.Need-wide-requires-2 Inv-loop μ-loop
+wide-requires-2 c κs = tt
+
+add-result : tie.Need-add-result Inv-loop μ-loop
+add-result c = omega (arith, count-within _ _ (c .wide2 .ensures .0 ∙ c .before .worked-in2 .ensures))
+
+returns-2 : tie.Need-returns-2 Inv-loop μ-loop
+returns-2 c =
+    let t = c .before .before .before .before .before .before .before .args .t in
+    count-part _ _ _ t (c .before .before .before .before .loop .inv .2) (c .wide2 .ensures .0 ∙ c .before .worked-in2 .ensures) (omega arith)
 
 pub worked-ticks-spec : {M : Type 1} → statement M
 worked-ticks-spec =
@@ -61,12 +93,24 @@ worked-ticks-spec =
     (tie.spec
     Inv-loop
     μ-loop
+    returns
+    cast-number
     loop-holds
-    shared-slice-read-wide
+    sub-loop
+    add-worked-in
+    sub-worked-in
+    part-worked-in-start
+    part-worked-in-end
+    worked-in-requires
     wide-requires
-    cast-if1
     add-worked
     add-at
     loop-less
     loop-again
-    returns)
+    sub-worked-in-2
+    part-worked-in-start-2
+    part-worked-in-end-2
+    worked-in-requires-2
+    wide-requires-2
+    add-result
+    returns-2)
