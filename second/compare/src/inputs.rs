@@ -10,7 +10,7 @@ mod tables;
 
 pub use desk::kinds_of_input;
 pub use good::{audition, full_log};
-pub use largest::largest_sessions;
+pub use largest::{largest_sessions, session_without_entries};
 pub use logs::kinds_of_log;
 pub use second::generate::{every_tick, full_house};
 pub use sessions::{damaged_files, lent_record, long_sessions, Session};
