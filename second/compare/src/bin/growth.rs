@@ -13,43 +13,38 @@ fn main() {
     let mut places = places::lines();
     let of_tables = tables.iter_mut().flat_map(Table::runs);
     five_runs(of_tables.chain(places.iter_mut().map(|(_, runs)| runs)));
-    let [.., of_entries] = &tables;
     tables.iter().for_each(Table::print);
-    of_entries.print_costs_of_one();
     places::print(&places);
     println!();
     print_load("after");
 }
 
-/// The entries' table comes last, so that the cost of one stands under it.
 fn tables() -> [Table; 5] {
     let silent_h = "H grows: mostly silence, 64 entries spread evenly, eight booths of 1 in 8";
     let busy_h = "H grows: all busy, 64 entries spread evenly, eight booths of 1 in 8";
+    let entries = "Entries grow: mostly silence, H 1,000,000, eight booths of 1 in 8";
     let booths = "Booths grow: all busy, H 1,000,000, 4,096 entries, booths of 1 in 8";
     let no_rest = "Booths grow: all busy, H 1,000,000, 4,096 entries, N booths of 1 in N";
-    let entries = "Entries grow: mostly silence, H 1,000,000, eight booths of 1 in 8";
     [
         Table::new(silent_h, "H", growing_h(2)),
         Table::new(busy_h, "H", growing_h(65_535)),
+        Table::new(entries, "Entries", growing_entries()),
         Table::new(booths, "Booths", growing_booths()),
         Table::new(no_rest, "Booths", growing_booths_without_rest()),
-        Table::new(entries, "Entries", growing_entries()),
     ]
 }
 
 /// Tables of sessions that grow.
 mod grown {
-    use std::time::Duration;
-
     use compare::inputs::Session;
     use compare::runs::Runs;
     use compare::sheet::{count, nanoseconds, print_head, print_row, ratio, Range};
-    use compare::stopwatch::{Effort, Times};
+    use compare::stopwatch::Effort;
     use compare::timed::session_times;
     use compare::{boxed, fast};
 
     pub struct Table {
-        heading: String,
+        heading: &'static str,
         /// What grows from line to line.
         grows: &'static str,
         lines: Vec<Line>,
@@ -89,23 +84,17 @@ mod grown {
                 in_a_tick(rust),
             ]);
         }
-
-        /// What each entry adds to the time of the session without any, run by run.
-        fn cost_of_one(&self, none: &Line, whose: fn(&Times) -> Duration) -> String {
-            let pairs = self.runs.times().iter().zip(none.runs.times());
-            let more = pairs.map(|(some, none)| {
-                let (some, none) = (whose(some), whose(none));
-                (some.as_secs_f64() - none.as_secs_f64()) / self.size as f64
-            });
-            Range::of(more).said(|seconds| nanoseconds(seconds, 0))
-        }
     }
 
     impl Table {
-        pub fn new(heading: &str, grows: &'static str, sessions: Vec<(u64, Session)>) -> Table {
+        pub fn new(
+            heading: &'static str,
+            grows: &'static str,
+            sessions: Vec<(u64, Session)>,
+        ) -> Table {
             let sessions = sessions.into_iter();
             Table {
-                heading: heading.to_owned(),
+                heading,
                 grows,
                 lines: sessions
                     .map(|(size, session)| Line::new(size, session))
@@ -122,20 +111,6 @@ mod grown {
             let (library, rust) = ("Library, a wall tick", "Rust, a wall tick");
             print_head(&[self.grows, "Library", "Rust", "Ratio", library, rust]);
             self.lines.iter().for_each(Line::print);
-        }
-
-        /// For a table whose first line has no entry.
-        pub fn print_costs_of_one(&self) {
-            println!("\nThe same sessions: what each entry adds to the one without any");
-            print_head(&[self.grows, "Library, an entry", "Rust, an entry"]);
-            let none = &self.lines[0];
-            for line in &self.lines[1..] {
-                print_row(&[
-                    count(line.size),
-                    line.cost_of_one(none, |times| times.library),
-                    line.cost_of_one(none, |times| times.rust),
-                ]);
-            }
         }
     }
 }
