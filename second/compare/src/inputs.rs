@@ -3,15 +3,19 @@
 mod desk;
 mod edge;
 mod good;
+mod growing;
 mod largest;
 mod logs;
+mod placed;
 mod sessions;
 mod tables;
 
 pub use desk::kinds_of_input;
 pub use good::{audition, full_log};
-pub use largest::largest_sessions;
+pub use growing::{growing_booths, growing_booths_without_rest, growing_entries, growing_h};
+pub use largest::{largest_sessions, session_without_entries};
 pub use logs::kinds_of_log;
+pub use placed::Placed;
 pub use second::generate::{every_tick, full_house};
 pub use sessions::{damaged_files, lent_record, long_sessions, Session};
 pub use tables::kinds_of_table;

@@ -3,7 +3,12 @@
 use std::hint::black_box;
 use std::time::{Duration, Instant};
 
-const ROUNDS: usize = 31;
+/// How often the work is done: a round times so many calls of each program.
+#[derive(Clone, Copy)]
+pub struct Effort {
+    pub rounds: usize,
+    pub calls: u32,
+}
 
 /// The median time of one call of each.
 pub struct Times {
@@ -16,26 +21,20 @@ impl Times {
     pub fn ratio(&self) -> f64 {
         self.library.as_secs_f64() / self.rust.as_secs_f64()
     }
-
-    pub fn print(&self, work: &str) {
-        let (library, rust) = (self.library, self.rust);
-        let ratio = self.ratio();
-        println!("{work:<56} library {library:>10.2?}  rust {rust:>10.2?}  ratio {ratio:.2}");
-    }
 }
 
-/// Each round times `calls` calls of the one, then of the other, so that a slow
+/// Each round times the calls of the one, then of the other, so that a slow
 /// moment of the machine falls on both.
 pub fn in_turn<L, R>(
-    calls: u32,
+    effort: Effort,
     mut library: impl FnMut() -> L,
     mut rust: impl FnMut() -> R,
 ) -> Times {
     let mut of_library = Vec::new();
     let mut of_rust = Vec::new();
-    for _ in 0..ROUNDS {
-        of_library.push(time(calls, &mut library));
-        of_rust.push(time(calls, &mut rust));
+    for _ in 0..effort.rounds {
+        of_library.push(time(effort.calls, &mut library));
+        of_rust.push(time(effort.calls, &mut rust));
     }
     Times {
         library: median(of_library),

@@ -27,10 +27,15 @@ pub fn audition() -> Files {
 /// `count` entries spread evenly over H wall ticks, for all tasks of all booths
 /// in turn, each with the same demand.
 pub fn full_log(h: u64, count: u64, demand: u64) -> Log {
+    log_for(8, h, count, demand)
+}
+
+/// As the full log, for so many booths of eight tasks.
+pub fn log_for(booths: usize, h: u64, count: u64, demand: u64) -> Log {
     let entry = |number: u64| Entry {
         tick: WallTick(number * h / count),
-        booth: number as usize % 8,
-        task: number as usize / 8 % 8,
+        booth: number as usize % booths,
+        task: number as usize / booths % 8,
         demand,
     };
     Log {

@@ -38,3 +38,9 @@ pub fn largest_sessions() -> Vec<(&'static str, Session)> {
         ("all busy, mixed periods", session(mixed_periods(), 65_535)),
     ]
 }
+
+/// As long as the largest, with no entry at all.
+pub fn session_without_entries() -> (&'static str, Session) {
+    let session = Session::new(full_house(65_535), full_log(1_000_000, 0, 1));
+    ("no entry, 1 in 8", session)
+}
