@@ -16,7 +16,8 @@ use Rattle.laws.proofs.DueLaws.{playable-soon}
 use Rattle.booth.specs.declared.Booth.{Booth as HeldBooth}
 use Rattle.booth.specs.declared.Chosen.{Chosen}
 use Rattle.booth.specs.declared.Chosen.the-variants.{Task, Nothing}
-use Rattle.booth.specs.BoothHeld.{shown, settledAnswer, asked, Steady}
+use Rattle.booth.specs.BoothHeld.{owed, shown, settledAnswer, asked, Steady}
+use Rattle.booth.proofs.Demand.{owed-eight}
 use Rattle.booth.proofs.Working.{held-first, may-held, task-held}
 
 -- ---- what a settled booth's answer says
@@ -60,10 +61,10 @@ unfolding shown
 chosen-first l bs t h row k s p e =
     let may = both-held (eqb (h .first) nobody) (ltb (h .clock .0) (due (h .promise) (suc t))) (sym (may-held l bs h row s p t) ∙ works t (shown l bs h row) k e) in
     let busy : h .first ≡ nobody → ⊥ = eqb-false (h .first) nobody (may .0) in
-    let task : Task (firstTask 0 (take (h .tasks) (h .demand))) ≡ Task k = sym (told t (shown l bs h row) (works t (shown l bs h row) k e)) ∙ e in
-    let same : firstTask 0 (take (h .tasks) (h .demand)) ≡ k = cc in
+    let task : Task (firstTask 0 (take (h .tasks) (owed h))) ≡ Task k = sym (told t (shown l bs h row) (works t (shown l bs h row) k e)) ∙ e in
+    let same : firstTask 0 (take (h .tasks) (owed h)) ≡ k = cc in
     let first : k ≡ h .first = sym same ∙ task-held l bs h row s p busy in
-    (omega (arith, first, (held-first h s busy) .there, s .eight), first, ltb-true (h .clock .0) (due (h .promise) (suc t)) (may .1))
+    (omega (arith, first, (held-first h s busy) .there, owed-eight h, s .eight), first, ltb-true (h .clock .0) (due (h .promise) (suc t)) (may .1))
 
 -- ---- the turn
 
@@ -78,7 +79,3 @@ unfolding asked
 asked-works t b c k e answer =
     let yes : mayWork t (settle t b) ≡ true = ap (mayWork t) (sym e) ∙ works t c k answer in
     (ap work e ∙ sym (rw (yes, asked)), sym yes)
-
--- the wall tick at which it wakes fits a number
-pub wakes-fits : (p : Promise) (u t : ℕ) → Sound p → p .period ≤ 10000 → t < 1000000 → u ≤ due p (suc t) → playableFrom p u < 4294967296
-wakes-fits p u t s short early cap = omega (arith, playable-soon p s u (suc t) cap)
