@@ -9,9 +9,11 @@ use native.Mathlib.Nat.{not-suc-le-zero, le-of-suc-le-suc, add-zero, add-suc, su
 use native.Mathlib.Omega.{arith}
 use lib.Dec.{eqb}
 use lib.ListN.{length, getD, take, set, length-set, List·getD-eq-default, length-take}
-use lib.Seq.{getD-set-same, getD-set-other, getD-take, take-set-lt}
+use lib.Seq.{getD-set-same, getD-set-other, getD-take, take-set-lt, set-getD, set-set, set-out}
 use borrow.Author.Tests.{eq-eqb, ne-eqb}
 use Rattle.rules.specs.Moves.{nobody, noDemand, firstTask, addDemand, loseOne}
+use Rattle.booth.specs.declared.Booth.{Booth as HeldBooth}
+use Rattle.booth.specs.BoothHeld.{owed, laidDown, takenUp, demanding, playedOn}
 use Rattle.rules.proofs.FirstDemand.{First, first-here, no-demand, none-first, found-first, is-first}
 use Rattle.laws.proofs.Tasks.{no-demand-zero}
 
@@ -96,3 +98,37 @@ add-taken n k d ds h there =
     add-set k d (take n ds) (omega (arith, length-take n ds))
     ∙ ap (λ x. set (take n ds) k (x + d)) (getD-take n ds k 0 h)
     ∙ sym (take-set-lt n ds k (getD ds k 0 + d) h)
+
+-- ---- the first task's demand apart
+
+pub owed-eight : (h : HeldBooth) → length (owed h) ≡ length (h .demand)
+unfolding owed
+owed-eight h = length-set (h .demand) (h .first) (h .left)
+
+-- what the first task has left
+pub owed-first : (h : HeldBooth) → h .first < length (h .demand) → getD (owed h) (h .first) 0 ≡ h .left
+unfolding owed
+owed-first h there = getD-set-same (h .demand) (h .first) (h .left) 0 there
+
+pub owed-demanding : (h : HeldBooth) (ds : List ℕ) → owed (demanding h ds) ≡ ds
+unfolding owed demanding
+owed-demanding h ds = set-getD ds (firstTask 0 ds) 0
+
+pub owed-played : (h : HeldBooth) → h .first < length (h .demand) → owed (playedOn h) ≡ set (owed h) (h .first) (getD (owed h) (h .first) 0 - 1)
+unfolding owed playedOn
+owed-played h there =
+    ap (λ x. set (h .demand) (h .first) (x - 1)) (sym (getD-set-same (h .demand) (h .first) (h .left) 0 there))
+    ∙ sym (set-set (h .demand) (h .first) (h .left) (getD (set (h .demand) (h .first) (h .left)) (h .first) 0 - 1))
+
+-- with no first task there is nothing to lay down
+pub laid-none : (h : HeldBooth) → length (h .demand) ≤ h .first → h ≡ laidDown h
+unfolding laidDown owed
+laid-none h none = ap (λ ds. record { number = h .number; tasks = h .tasks; demand = ds; first = h .first; left = h .left; at = h .at; promise = h .promise; clock = h .clock; opens = h .opens; tick = h .tick; point = h .point }) (sym (set-out (h .demand) (h .first) (h .left) none))
+
+-- a booth with this demand and this first task
+abbrev pub heading : HeldBooth → List ℕ → ℕ → HeldBooth
+heading h ds first = record { number = h .number; tasks = h .tasks; demand = ds; first = first; left = h .left; at = h .at; promise = h .promise; clock = h .clock; opens = h .opens; tick = h .tick; point = h .point }
+
+pub headed : (h : HeldBooth) (ds : List ℕ) (first : ℕ) → first ≡ firstTask 0 ds → takenUp (heading h ds first) ≡ demanding h ds
+unfolding takenUp demanding
+headed h ds first e = ap (λ k. record { number = h .number; tasks = h .tasks; demand = ds; first = k; left = getD ds k 0; at = h .at; promise = h .promise; clock = h .clock; opens = h .opens; tick = h .tick; point = h .point }) e

@@ -11,27 +11,30 @@ use borrow.Author.Tests.{leb-true, leb-false, eq-eqb, ne-eqb}
 use Rattle.rules.specs.declared.Promise.{Promise}
 use Rattle.rules.specs.BoothTable.{Line}
 use Rattle.rules.specs.ArrivalLog.{Entry}
-use Rattle.rules.specs.Due.{due, releasePoint}
+use Rattle.rules.specs.Due.{due, playableFrom, releasePoint}
 use Rattle.rules.specs.Moves.{Booth, nobody, noDemand, settle}
 use Rattle.rules.specs.InRange.{Sound}
-use Rattle.rules.specs.InRange.{Sound}
-use Rattle.laws.proofs.DueLaws.{due-mono, due-at-most}
+use Rattle.laws.proofs.DueLaws.{due-mono, due-at-most, playable-soon}
 use Rattle.laws.proofs.QuickSettle.{rest, rests, takesFirst, settleThrough, quickSettle}
 use Rattle.laws.specs.Courses.{forward, addFirst, afterFirst, InOrder}
 use Rattle.laws.proofs.PageSettle.{settle-quick}
 use Rattle.arrivals.specs.Places.{waitingAt, WholeLog}
 use Rattle.arrivals.proofs.PlaceLaws.{waiting-end, waiting-sorted}
 use Rattle.booth.specs.declared.Booth.{Booth as HeldBooth}
-use Rattle.booth.specs.BoothHeld.{shown, takenNext, takesNext, Steady, Fit, Stays, clockAt, lengthened}
-use Rattle.booth.proofs.Demand.{nobody-first, none-taken}
+use Rattle.booth.specs.BoothHeld.{owed, shown, takenNext, takesNext, Steady, Fit, Stays, clockAt, lengthened}
+use Rattle.booth.proofs.Demand.{nobody-first, none-taken, owed-eight}
 use Rattle.booth.proofs.RowWritten.{written-behind, agree-later}
 use Rattle.booth.proofs.Taking.{entryOf, taken-next, first-waits, shown-moved, fit-moved}
+
+-- the wall tick from which an own tick that is due may be played fits a number
+pub near : (p : Promise) (u t : ℕ) → Sound p → p .period ≤ 10000 → t < 1000001 → u ≤ due p t → playableFrom p u < 4294967296
+near p u t s short early cap = omega (arith, playable-soon p s u t cap)
 
 -- the held first task says whether demand is left
 pub held-none : (l : Line) (bs : List ℕ) (h : HeldBooth) (row : List ℕ) → Steady h → eqb (h .first) nobody ≡ noDemand ((shown l bs h row) .left)
 unfolding shown
 held-none l bs h row s =
-    ap (λ k. eqb k nobody) (s .first) ∙ nobody-first (h .demand) (omega (arith, s .eight)) ∙ sym (none-taken (h .tasks) (h .demand) (s .rest))
+    ap (λ k. eqb k nobody) (s .first) ∙ nobody-first (owed h) (omega (arith, owed-eight h, s .eight)) ∙ sym (none-taken (h .tasks) (owed h) (s .rest))
 
 -- a booth in the hand of the code is in order, as the laws on settling ask
 pub shown-in-order : (l : Line) (bs : List ℕ) (h : HeldBooth) (row : List ℕ) (t : ℕ) → l .promise ≡ h .promise → WholeLog bs → Fit bs h → h .clock .0 ≤ due (h .promise) t
@@ -69,9 +72,9 @@ module _ (bs : List ℕ) (h : HeldBooth) (row : List ℕ) (t : ℕ) (fit : Fit b
   unfolding takesFirst takesNext shown releasePoint
   takes-alike l q more =
       let n = fit .waits .next more in
-      ap (λ p. leb ((entryOf bs h) .tick) t && (leb (due p ((entryOf bs h) .tick)) (h .clock .0) || noDemand (take (h .tasks) (h .demand)))) q
+      ap (λ p. leb ((entryOf bs h) .tick) t && (leb (due p ((entryOf bs h) .tick)) (h .clock .0) || noDemand (take (h .tasks) (owed h)))) q
       ∙ ap (λ x. leb ((entryOf bs h) .tick) t && x)
-      (swap-or (leb (due (h .promise) ((entryOf bs h) .tick)) (h .clock .0)) (noDemand (take (h .tasks) (h .demand)))
+      (swap-or (leb (due (h .promise) ((entryOf bs h) .tick)) (h .clock .0)) (noDemand (take (h .tasks) (owed h)))
       ∙ ap (λ x. x || leb (due (h .promise) ((entryOf bs h) .tick)) (h .clock .0)) (sym (held-none l bs h row (fit .steady)))
       ∙ ap (λ x. eqb (h .first) nobody || leb x (h .clock .0)) (sym (n .point)))
       ∙ ap (λ x. leb x t && (eqb (h .first) nobody || leb (h .point .0) (h .clock .0))) (sym (n .tick))

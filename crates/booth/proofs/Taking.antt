@@ -8,18 +8,18 @@ use native.Mathlib.Decide.{ℕ-discrete}
 use native.Mathlib.Omega.{arith}
 use lib.Dec.{leb, eqb}
 use lib.ListN.{length, getD, take, drop, set, replicate, length-set, length-replicate}
-use lib.Seq.{getD-set-same, getD-set-other}
+use lib.Seq.{getD-set-same, getD-set-other, set-getD}
 use Rattle.rules.specs.BoothTable.{Line}
 use Rattle.rules.specs.ArrivalLog.{Entry, entryAt}
 use Rattle.rules.specs.Due.{due, releasePoint}
-use Rattle.rules.specs.Moves.{Booth, nobody, noDemand, addDemand}
+use Rattle.rules.specs.Moves.{Booth, nobody, noDemand, firstTask, addDemand}
 use Rattle.laws.proofs.QuickSettle.{takesFirst, settleThrough, quickSettle}
 use Rattle.laws.specs.Courses.{forward, addFirst, afterFirst}
 use Rattle.arrivals.specs.Places.{waitingAt}
 use Rattle.arrivals.proofs.PlaceLaws.{whole-entry, waiting-own}
 use Rattle.booth.specs.declared.Booth.{Booth as HeldBooth}
-use Rattle.booth.specs.BoothHeld.{shown, takenNext, Next, Waits, Fit, Looked, lookingAt, demanding, clockAt, lengthened}
-use Rattle.booth.proofs.Demand.{add-taken}
+use Rattle.booth.specs.BoothHeld.{owed, shown, takenNext, Next, Waits, Fit, Looked, lookingAt, demanding, clockAt, lengthened}
+use Rattle.booth.proofs.Demand.{add-taken, owed-eight}
 use Rattle.booth.proofs.RowWritten.{written-front}
 
 -- ---- the clock moves
@@ -27,7 +27,7 @@ use Rattle.booth.proofs.RowWritten.{written-front}
 -- the clock moves on to v, and the own ticks passed over are written
 pub shown-moved : (l : Line) (bs : List ℕ) (h : HeldBooth) (row : List ℕ) (v : ℕ) → h .clock .0 ≤ length row
     → shown l bs (clockAt h (h .clock .0 + (v - h .clock .0))) (lengthened row (h .clock .0) (replicate (v - h .clock .0) 255)) ≡ forward v (shown l bs h row)
-unfolding shown clockAt forward
+unfolding shown clockAt forward owed
 shown-moved l bs h row v inside =
     let u = h .clock .0 in
     let ticks : List ℕ = replicate (v - u) 255 in
@@ -36,10 +36,10 @@ shown-moved l bs h row v inside =
     rw front
 
 pub fit-moved : (bs : List ℕ) (h : HeldBooth) (u : ℕ) → Fit bs h → Fit bs (clockAt h u)
-unfolding clockAt
+unfolding clockAt owed
 fit-moved bs h u f =
     record {
-      steady = record { sound = f .steady .sound; short = f .steady .short; tasks = f .steady .tasks; eight = f .steady .eight; rest = f .steady .rest; first = f .steady .first };
+      steady = record { sound = f .steady .sound; short = f .steady .short; tasks = f .steady .tasks; eight = f .steady .eight; rest = f .steady .rest; first = f .steady .first; opens = refl };
       waits = record {
         place = f .waits .place;
         none = f .waits .none;
@@ -58,7 +58,16 @@ entryOf bs h = entryAt bs (h .at)
 abbrev pub added : List ℕ → HeldBooth → HeldBooth
 added bs h =
     demanding (clockAt h (h .clock .0 + (h .point .0 - h .clock .0)))
-    (set (h .demand) ((entryOf bs h) .task) (getD (h .demand) ((entryOf bs h) .task) 0 + (entryOf bs h) .demand))
+    (set (owed h) ((entryOf bs h) .task) (getD (owed h) ((entryOf bs h) .task) 0 + (entryOf bs h) .demand))
+
+-- its demand is that, wherever it looks
+owed-looking : (h : HeldBooth) (ds : List ℕ) (at tick point : ℕ) → owed (lookingAt (demanding h ds) at tick point) ≡ ds
+unfolding owed lookingAt demanding
+owed-looking h ds at tick point = set-getD ds (firstTask 0 ds) 0
+
+pub owed-moved : (h : HeldBooth) (u : ℕ) → owed (clockAt h u) ≡ owed h
+unfolding owed clockAt
+owed-moved h u = refl
 
 pub taken-next : (b : Booth) (e : Entry) (es : List Entry) → b .waiting ≡ e ∷ es → takenNext b ≡ afterFirst e es b
 unfolding takenNext addFirst forward
@@ -72,11 +81,14 @@ module _ (bs : List ℕ) (h : HeldBooth) (fit : Fit bs h) (more : h .at < length
   pub own-task : (entryOf bs h) .task < h .tasks
   own-task = fit .own (h .at) (fit .waits .place) more (next .booth)
 
+  inside-demand : (entryOf bs h) .task < length (owed h)
+  inside-demand = omega (arith, own-task, owed-eight h, fit .steady .eight, fit .steady .tasks)
+
   pub first-waits : waitingAt bs (h .number) (h .at) ≡ entryOf bs h ∷ waitingAt bs (h .number) (h .at + 9)
   first-waits = waiting-own bs (h .number) (h .at) (fit .waits .place) more (next .booth)
 
   -- what is added leaves room for all that still waits
-  pub room-for : (entryOf bs h) .demand ≤ 65535 → (k : ℕ) → (getD (h .demand) k 0 + (entryOf bs h) .demand) * 9 + 65535 * (length bs - (h .at + 9)) ≤ 65535 * 36873
+  pub room-for : (entryOf bs h) .demand ≤ 65535 → (k : ℕ) → (getD (owed h) k 0 + (entryOf bs h) .demand) * 9 + 65535 * (length bs - (h .at + 9)) ≤ 65535 * 36873
   room-for small k = omega (arith, fit .room k, (whole-entry bs (h .at) (fit .waits .place) more) .0)
 
   module _ (row : List ℕ) (inside : h .clock .0 ≤ length row) (r : HeldBooth) (looked : Looked bs (added bs h) (h .at + 9) r) where
@@ -87,10 +99,13 @@ module _ (bs : List ℕ) (h : HeldBooth) (fit : Fit bs h) (more : h .at < length
         let u = h .clock .0 + (h .point .0 - h .clock .0) in
         let row' = lengthened row (h .clock .0) (replicate (h .point .0 - h .clock .0) 255) in
         let es = waitingAt bs (h .number) (h .at + 9) in
-        let left : addDemand (e .task) (e .demand) (take (h .tasks) (h .demand))
-        ≡ take (h .tasks) (set (h .demand) (e .task) (getD (h .demand) (e .task) 0 + e .demand)) =
-        add-taken (h .tasks) (e .task) (e .demand) (h .demand) own-task (omega (arith, own-task, fit .steady .eight, fit .steady .tasks)) in
-        let seen : shown l bs (lookingAt (added bs h) (r .at) (r .tick .0) (r .point .0)) row' ≡ addFirst e es (shown l bs (clockAt h u) row') = rw (looked .same, left) in
+        let left : take (h .tasks) (owed (lookingAt (added bs h) (r .at) (r .tick .0) (r .point .0))) ≡ addDemand (e .task) (e .demand) (take (h .tasks) (owed (clockAt h u))) =
+        ap (take (h .tasks)) (owed-looking (clockAt h u) (set (owed h) (e .task) (getD (owed h) (e .task) 0 + e .demand)) (r .at) (r .tick .0) (r .point .0))
+        ∙ sym (add-taken (h .tasks) (e .task) (e .demand) (owed h) own-task inside-demand)
+        ∙ ap (λ ds. addDemand (e .task) (e .demand) (take (h .tasks) ds)) (sym (owed-moved h u)) in
+        let seen : shown l bs (lookingAt (added bs h) (r .at) (r .tick .0) (r .point .0)) row' ≡ addFirst e es (shown l bs (clockAt h u) row') =
+        ap (λ x. record { line = l; u = u; left = x; waiting = waitingAt bs (h .number) (r .at); row = take u row' }) left
+        ∙ ap (λ w. record { line = l; u = u; left = addDemand (e .task) (e .demand) (take (h .tasks) (owed (clockAt h u))); waiting = w; row = take u row' }) (looked .same) in
         ap (λ x. shown l bs x row') (looked .is)
         ∙ seen
         ∙ ap (addFirst e es) (shown-moved l bs h row (h .point .0) inside)
@@ -105,27 +120,35 @@ module _ (bs : List ℕ) (h : HeldBooth) (fit : Fit bs h) (more : h .at < length
         e = entryOf bs h
 
         x : ℕ
-        x = getD (h .demand) (e .task) 0 + e .demand
+        x = getD (owed h) (e .task) 0 + e .demand
 
-        other : (k : ℕ) → (k ≡ e .task → ⊥) → getD (set (h .demand) (e .task) x) k 0 ≡ getD (h .demand) k 0
-        other k ne = getD-set-other (h .demand) (e .task) k x 0 ne
+        looks : HeldBooth
+        looks = lookingAt (added bs h) (r .at) (r .tick .0) (r .point .0)
 
-        room : (k : ℕ) → Dec (k ≡ e .task) → getD (set (h .demand) (e .task) x) k 0 * 9 + 65535 * (length bs - r .at) ≤ 65535 * 36873
-        room k (yes q) =
-            rw (q, getD-set-same (h .demand) (e .task) x 0 (omega (arith, own-task, fit .steady .eight, fit .steady .tasks)))
-            (omega (arith, room-for small (e .task), looked .later))
+        now-owed : owed looks ≡ set (owed h) (e .task) x
+        now-owed = owed-looking (clockAt h (h .clock .0 + (h .point .0 - h .clock .0))) (set (owed h) (e .task) x) (r .at) (r .tick .0) (r .point .0)
+
+        other : (k : ℕ) → (k ≡ e .task → ⊥) → getD (owed looks) k 0 ≡ getD (owed h) k 0
+        other k ne = ap (λ ds. getD ds k 0) now-owed ∙ getD-set-other (owed h) (e .task) k x 0 ne
+
+        same : getD (owed looks) (e .task) 0 ≡ x
+        same = ap (λ ds. getD ds (e .task) 0) now-owed ∙ getD-set-same (owed h) (e .task) x 0 inside-demand
+
+        room : (k : ℕ) → Dec (k ≡ e .task) → getD (owed looks) k 0 * 9 + 65535 * (length bs - r .at) ≤ 65535 * 36873
+        room k (yes q) = rw (q, same) (omega (arith, room-for small (e .task), looked .later))
         room k (no ne) = rw (other k ne) (omega (arith, fit .room k, looked .later))
 
-        at-look : Fit bs (lookingAt (added bs h) (r .at) (r .tick .0) (r .point .0))
+        at-look : Fit bs looks
         at-look =
             record {
               steady = record {
                 sound = fit .steady .sound;
                 short = fit .steady .short;
                 tasks = fit .steady .tasks;
-                eight = length-set (h .demand) (e .task) x ∙ fit .steady .eight;
+                eight = length-set (owed h) (e .task) x ∙ owed-eight h ∙ fit .steady .eight;
                 rest = λ k far. other k (λ q. omega (arith, q, own-task)) ∙ fit .steady .rest k far;
-                first = refl;
+                first = ap (firstTask 0) (sym now-owed);
+                opens = refl;
               };
               waits = subst (Waits bs) (looked .is) (looked .waits);
               own = fit .own;

@@ -12,8 +12,14 @@ use lib.ListN.{length, getD, take, drop, set, length-set}
 use lib.Seq.{getD-set-same, getD-set-other, take-suc-set, drop-set-lt}
 use borrow.Author.Tests.{eq-eqb, ne-eqb, lt-ltb, le-ltb, eqb-true, eqb-false}
 use Rattle.rules.specs.BoothTable.{Line}
-use Rattle.rules.specs.Due.{due}
+use Rattle.rules.specs.Due.{due, playableFrom}
+use Rattle.rules.specs.Opens.{opensAt}
+use Rattle.rules.specs.declared.Opens.{Opens}
 use Rattle.rules.specs.Moves.{Booth, nobody, noDemand, firstTask, loseOne, mayWork, work, settle}
+use Rattle.rules.specs.InRange.{Sound}
+use Rattle.rules.specs.ArrivalLog.{entryAt}
+use Rattle.rules.specs.declared.WallTick.{WallTick}
+use Rattle.rules.specs.declared.OwnTick.{OwnTick}
 use Rattle.laws.proofs.QuickSettle.{Late}
 use Rattle.laws.specs.Courses.{InOrder}
 use Rattle.laws.proofs.DueLaws.{not-yet-due}
@@ -23,28 +29,33 @@ use Rattle.arrivals.proofs.PlaceLaws.{waiting-end}
 use Rattle.booth.specs.declared.Booth.{Booth as HeldBooth}
 use Rattle.booth.specs.declared.Chosen.{Chosen}
 use Rattle.booth.specs.declared.Chosen.the-variants.{Task, Nothing}
-use Rattle.booth.specs.BoothHeld.{shown, settledAnswer, wakesAt, Steady, Fit, Stays, AfterPlay}
+use Rattle.booth.specs.BoothHeld.{owed, shown, settledAnswer, wakesAt, Steady, Next, Fit, Stays, AfterPlay, playedOn, demanding}
 use Rattle.rules.proofs.FirstDemand.{First, first-here}
-use Rattle.booth.proofs.Demand.{demand-or-none, first-same, first-taken, lose-taken}
+use Rattle.booth.proofs.Demand.{demand-or-none, first-same, first-taken, lose-taken, owed-eight, owed-first, owed-demanding, owed-played}
 use Rattle.booth.proofs.Taking.{first-waits}
 use Rattle.booth.proofs.Settling.{held-none, shown-in-order}
 
 -- ---- the answer
 
 -- the held first task is the rule's
-pub held-first : (h : HeldBooth) → Steady h → (h .first ≡ nobody → ⊥) → First (h .demand) (h .first)
-held-first h s busy = ⊎-elim (λ w. absurd (busy (s .first ∙ w .1))) (λ w. subst (First (h .demand)) (sym (s .first)) (w .1)) (demand-or-none (h .demand))
+pub held-first : (h : HeldBooth) → Steady h → (h .first ≡ nobody → ⊥) → First (owed h) (h .first)
+held-first h s busy = ⊎-elim (λ w. absurd (busy (s .first ∙ w .1))) (λ w. subst (First (owed h)) (sym (s .first)) (w .1)) (demand-or-none (owed h))
+
+-- where the clock lies says from which wall tick on its own tick may be played
+pub opens-from : (h : HeldBooth) → Steady h → h .opens .from .0 ≡ playableFrom (h .promise) (h .clock .0)
+unfolding opensAt
+opens-from h s = ap (λ (o : Opens). o .from .0) (s .opens)
 
 module _ (l : Line) (bs : List ℕ) (h : HeldBooth) (row : List ℕ) (s : Steady h) (q : l .promise ≡ h .promise) where
-  pub task-held : (h .first ≡ nobody → ⊥) → firstTask 0 (take (h .tasks) (h .demand)) ≡ h .first
+  pub task-held : (h .first ≡ nobody → ⊥) → firstTask 0 (take (h .tasks) (owed h)) ≡ h .first
   task-held busy =
-      (first-here (take (h .tasks) (h .demand)) (h .first) (first-taken (h .tasks) (h .demand) (s .rest) (h .first) (held-first h s busy))) .1
+      (first-here (take (h .tasks) (owed h)) (h .first) (first-taken (h .tasks) (owed h) (s .rest) (h .first) (held-first h s busy))) .1
 
   -- whether the booth may work, as the code tests it
   pub may-held : (t : ℕ) → mayWork t (shown l bs h row) ≡ (not (eqb (h .first) nobody) && ltb (h .clock .0) (due (h .promise) (suc t)))
   unfolding mayWork shown
   may-held t =
-      ap (λ p. not (noDemand (take (h .tasks) (h .demand))) && ltb (h .clock .0) (due p (suc t))) q
+      ap (λ p. not (noDemand (take (h .tasks) (owed h))) && ltb (h .clock .0) (due p (suc t))) q
       ∙ ap (λ c. not c && ltb (h .clock .0) (due (h .promise) (suc t))) (sym (held-none l bs h row s))
 
   pub answers-none : (t : ℕ) → h .first ≡ nobody → Nothing ≡ settledAnswer t (shown l bs h row)
@@ -67,71 +78,113 @@ module _ (l : Line) (bs : List ℕ) (h : HeldBooth) (row : List ℕ) (s : Steady
 
 -- ---- the work
 
--- a booth whose task k has lost 1 and whose clock has grown by 1, with this first task now
-unfoldable pub worked : HeldBooth → ℕ → ℕ → HeldBooth
-worked h k first =
-    record {
-      number = h .number;
-      tasks = h .tasks;
-      demand = set (h .demand) k (getD (h .demand) k 0 - 1);
-      first = first;
-      at = h .at;
-      promise = h .promise;
-      clock = record { 0 = h .clock .0 + 1 };
-      tick = h .tick;
-      point = h .point;
-    }
+-- h has played its first task once, and is r
+pub record Played (h r : HeldBooth) : Type 0 where
+  pub stays : Stays h r
+  pub at : r .at ≡ h .at
+  pub tick : r .tick ≡ h .tick
+  pub point : r .point ≡ h .point
+  pub eight : length (r .demand) ≡ 8
+  pub owes : owed r ≡ set (owed h) (h .first) (getD (owed h) (h .first) 0 - 1)
+  pub first : r .first ≡ firstTask 0 (owed r)
+  pub clock : r .clock .0 ≡ h .clock .0 + 1
+  pub opens : r .opens ≡ opensAt (r .promise) (r .clock .0)
 
-module _ (h : HeldBooth) (s : Steady h) (k : ℕ) (f : First (h .demand) k) where
-  pub shown-worked : (l : Line) (bs row : List ℕ) (first : ℕ) → h .clock .0 < length row → shown l bs (worked h k first) (set row (h .clock .0) k) ≡ work (shown l bs h row)
-  unfolding shown worked work
-  shown-worked l bs row first inside =
-      let u = h .clock .0 in
-      let tasks = h .tasks in
-      let left = lose-taken tasks (h .demand) (s .rest) k f in
-      let is : firstTask 0 (take tasks (h .demand)) ≡ k = (first-here (take tasks (h .demand)) k (first-taken tasks (h .demand) (s .rest) k f)) .1 in
-      rw (add-one u, take-suc-set row u k inside, is, left)
+module _ (h : HeldBooth) (s : Steady h) (f : First (owed h) (h .first)) where
+  there : h .first < length (h .demand)
+  there = omega (arith, f .there, owed-eight h)
 
-  -- no task's demand grows
-  demand-falls : (j : ℕ) → getD (set (h .demand) k (getD (h .demand) k 0 - 1)) j 0 ≤ getD (h .demand) j 0
-  demand-falls j = go (ℕ-discrete j k)
-    where
-      go : Dec (j ≡ k) → getD (set (h .demand) k (getD (h .demand) k 0 - 1)) j 0 ≤ getD (h .demand) j 0
-      go (yes q) = rw (q, getD-set-same (h .demand) k (getD (h .demand) k 0 - 1) 0 (f .there)) (omega arith)
-      go (no ne) = rw (getD-set-other (h .demand) k j (getD (h .demand) k 0 - 1) 0 ne) (omega arith)
+  -- with more of the task left it stays the first
+  pub played-on : 1 < h .left → Played h (playedOn h)
+  unfolding playedOn
+  played-on more =
+      let owes = owed-played h there in
+      let left = owed-first h there in
+      record {
+        stays = record { number = refl; promise = refl; tasks = refl };
+        at = refl;
+        tick = refl;
+        point = refl;
+        eight = s .eight;
+        owes = owes;
+        first = sym (ap (firstTask 0) owes ∙ first-same (owed h) (h .first) (h .first) (getD (owed h) (h .first) 0 - 1) f (f .there) (omega (arith, left)) (omega arith));
+        clock = refl;
+        opens = refl;
+      }
 
-  pub after-play : (first : ℕ) → first ≡ firstTask 0 (set (h .demand) k (getD (h .demand) k 0 - 1)) → AfterPlay h (worked h k first)
-  unfolding worked
-  after-play first q =
-      record { steady = steady; fit = fit; stays = record { number = refl; promise = refl; tasks = refl }; at = refl; tick = refl; point = refl; clock = refl; falls = demand-falls }
-    where
-      steady : Steady (worked h k first)
-      steady =
-          record {
-            sound = s .sound;
-            short = s .short;
-            tasks = s .tasks;
-            eight = length-set (h .demand) k (getD (h .demand) k 0 - 1) ∙ s .eight;
-            rest = λ j far. omega (arith, demand-falls j, s .rest j far);
-            first = q;
-          }
+  -- with none the next with demand is
+  pub played-out : Played h (demanding (playedOn h) (owed (playedOn h)))
+  unfolding playedOn demanding
+  played-out =
+      let owes = owed-played h there in
+      let now-owed = owed-demanding (playedOn h) (owed (playedOn h)) in
+      record {
+        stays = record { number = refl; promise = refl; tasks = refl };
+        at = refl;
+        tick = refl;
+        point = refl;
+        eight = owed-eight (playedOn h) ∙ s .eight;
+        owes = now-owed ∙ owes;
+        first = ap (firstTask 0) (sym now-owed);
+        clock = refl;
+        opens = refl;
+      }
 
-      fit : (bs : List ℕ) → Fit bs h → Fit bs (worked h k first)
-      fit bs b =
-          record {
-            steady = steady;
-            waits = record {
-              place = b .waits .place;
-              none = b .waits .none;
-              next = λ i. let n = b .waits .next i in record { booth = n .booth; tick = n .tick; point = n .point };
-            };
-            own = b .own;
-            room = λ j. omega (arith, demand-falls j, b .room j);
-          }
+  module _ (r : HeldBooth) (p : Played h r) where
+    pub shown-worked : (l : Line) (bs row : List ℕ) → h .clock .0 < length row → shown l bs r (set row (h .clock .0) (h .first)) ≡ work (shown l bs h row)
+    unfolding shown work
+    shown-worked l bs row inside =
+        let u = h .clock .0 in
+        let tasks = h .tasks in
+        let k = h .first in
+        let left = lose-taken tasks (owed h) (s .rest) k f in
+        let is : firstTask 0 (take tasks (owed h)) ≡ k = (first-here (take tasks (owed h)) k (first-taken tasks (owed h) (s .rest) k f)) .1 in
+        rw (p .owes, p .stays .tasks, p .stays .number, p .at, p .clock, add-one u, take-suc-set row u k inside, is, left)
 
-  -- the first task stays the first while it has demand left
-  pub first-stays : 0 < getD (h .demand) k 0 - 1 → k ≡ firstTask 0 (set (h .demand) k (getD (h .demand) k 0 - 1))
-  first-stays some = sym (first-same (h .demand) k k (getD (h .demand) k 0 - 1) f (f .there) some (omega arith))
+    -- no task's demand grows
+    demand-falls : (j : ℕ) → getD (owed r) j 0 ≤ getD (owed h) j 0
+    demand-falls j = rw (p .owes) (go (ℕ-discrete j (h .first)))
+      where
+        go : Dec (j ≡ h .first) → getD (set (owed h) (h .first) (getD (owed h) (h .first) 0 - 1)) j 0 ≤ getD (owed h) j 0
+        go (yes q) = rw (q, getD-set-same (owed h) (h .first) (getD (owed h) (h .first) 0 - 1) 0 (f .there)) (omega arith)
+        go (no ne) = rw (getD-set-other (owed h) (h .first) j (getD (owed h) (h .first) 0 - 1) 0 ne) (omega arith)
+
+    pub after-play : AfterPlay h r
+    after-play =
+        record { steady = steady; fit = fit; stays = p .stays; at = p .at; tick = p .tick; point = p .point; clock = p .clock; falls = demand-falls }
+      where
+        steady : Steady r
+        steady =
+            record {
+              sound = subst Sound (sym (p .stays .promise)) (s .sound);
+              short = subst (λ q. q .period ≤ 10000) (sym (p .stays .promise)) (s .short);
+              tasks = omega (arith, p .stays .tasks, s .tasks);
+              eight = p .eight;
+              rest = λ j far. omega (arith, demand-falls j, s .rest j (omega (arith, p .stays .tasks)));
+              first = p .first;
+              opens = p .opens;
+            }
+
+        fit : (bs : List ℕ) → Fit bs h → Fit bs r
+        fit bs b =
+            record {
+              steady = steady;
+              waits = record {
+                place = rw (p .at) (b .waits .place);
+                none = rw (p .at, p .tick) (b .waits .none);
+                next = λ i. next (b .waits .next (rw (p .at) at i));
+              };
+              own = λ at q l e. subst (λ n. (entryAt bs at) .task < n) (sym (p .stays .tasks)) (b .own at q l (e ∙ p .stays .number));
+              room = λ j. omega (arith, demand-falls j, b .room j, p .at);
+            }
+          where
+            next : Next bs h → Next bs r
+            next n =
+                record {
+                  booth = ap (λ a. (entryAt bs a) .booth) (p .at) ∙ n .booth ∙ sym (p .stays .number);
+                  tick = ap (λ (x : WallTick). x .0) (p .tick) ∙ n .tick ∙ ap (λ a. (entryAt bs a) .tick) (sym (p .at));
+                  point = ap (λ (x : OwnTick). x .0) (p .point) ∙ n .point ∙ ap (λ a. due (h .promise) ((entryAt bs a) .tick)) (sym (p .at)) ∙ ap (λ q. due q ((entryAt bs (r .at)) .tick)) (sym (p .stays .promise));
+                }
 
 -- ---- asleep
 

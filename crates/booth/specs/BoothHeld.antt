@@ -1,13 +1,14 @@
 -- What a booth as the code holds it is to the rules: the booth of document 01, with its entries still in the log and its row in the lent record.
 use mathlib.Core.Path.{_≡_}
-use mathlib.Core.Bool.{Bool, true, false, _&&_, _||_}
+use mathlib.Core.Bool.{Bool, true, false, not, _&&_, _||_}
 use mathlib.Core.List.{List, [], _∷_, _++_}
 use Prim.Native.Nat.{ℕ, suc, _+_, _-_, _*_, _≤_, _<_}
-use lib.Dec.{leb, eqb}
+use lib.Dec.{leb, ltb, eqb}
 use lib.ListN.{length, getD, take, drop, set, replicate}
 use Rattle.rules.specs.BoothTable.{Line, longest-period}
 use Rattle.rules.specs.ArrivalLog.{entryAt}
 use Rattle.rules.specs.Due.{due, playableFrom}
+use Rattle.rules.specs.Opens.{opensAt}
 use Rattle.rules.specs.Moves.{Booth, nobody, firstTask, settle, mayWork, work}
 use Rattle.rules.specs.InRange.{Sound}
 use Rattle.arrivals.specs.Places.{waitingAt, Place}
@@ -28,12 +29,18 @@ absentBooth =
       tasks = 0;
       demand = replicate 8 0;
       first = nobody;
+      left = 0;
       at = 0;
       promise = record { period = 0; allowance = 0 };
       clock = record { 0 = 0 };
+      opens = record { from = record { 0 = 0 }; into = 0 };
       tick = record { 0 = never };
       point = record { 0 = 0 };
     }
+
+-- unplayed demand for each task: what the first has left stands in its place
+unfoldable pub owed : HeldBooth → List ℕ
+owed h = set (h .demand) (h .first) (h .left)
 
 -- the booth of document 01 that a held booth of line l, the log and the booth's part of the own record show
 unfoldable pub shown : Line → List ℕ → HeldBooth → List ℕ → Booth
@@ -41,7 +48,7 @@ shown l bs h row =
     record {
       line = l;
       u = h .clock .0;
-      left = take (h .tasks) (h .demand);
+      left = take (h .tasks) (owed h);
       waiting = waitingAt bs (h .number) (h .at);
       row = take (h .clock .0) row;
     }
@@ -60,6 +67,10 @@ takenNext b = elim (b .waiting) [ [] ↦ b | e ∷ es ↦ afterFirst e es b ]
 
 unfoldable pub takesNext : ℕ → HeldBooth → Bool
 takesNext t h = leb (h .tick .0) t && (eqb (h .first) nobody || leb (h .point .0) (h .clock .0))
+
+-- at t the booth has a task with more than one tick left, may play it, and has no entry to add
+unfoldable pub goesOn : ℕ → HeldBooth → Bool
+goesOn t h = not (eqb (h .first) nobody) && (leb (h .opens .from .0) t && (ltb 1 (h .left) && not (takesNext t h)))
 
 -- ---- what holds of a held booth
 
@@ -81,21 +92,22 @@ pub record Waits (bs : List ℕ) (h : HeldBooth) : Type 0 where
   pub none : length bs ≤ h .at → h .tick .0 ≡ never
   pub next : h .at < length bs → Next bs h
 
--- what holds of a booth's promise, its demand and the first task with some
+-- what holds of a booth's promise, its demand, the first task with some, and where its clock lies
 pub record Steady (h : HeldBooth) : Type 0 where
   pub sound : Sound (h .promise)
   pub short : h .promise .period ≤ longest-period
   pub tasks : h .tasks ≤ 8
   pub eight : length (h .demand) ≡ 8
-  pub rest : (k : ℕ) → h .tasks ≤ k → getD (h .demand) k 0 ≡ 0
-  pub first : h .first ≡ firstTask 0 (h .demand)
+  pub rest : (k : ℕ) → h .tasks ≤ k → getD (owed h) k 0 ≡ 0
+  pub first : h .first ≡ firstTask 0 (owed h)
+  pub opens : h .opens ≡ opensAt (h .promise) (h .clock .0)
 
 -- what holds of a booth between two moves: also of its place in the log, its tasks there, and that no sum of demand grows too large
 pub record Fit (bs : List ℕ) (h : HeldBooth) : Type 0 where
   pub steady : Steady h
   pub waits : Waits bs h
   pub own : (at : ℕ) → Place bs at → at < length bs → (entryAt bs at) .booth ≡ h .number → (entryAt bs at) .task < h .tasks
-  pub room : (k : ℕ) → getD (h .demand) k 0 * 9 + 65535 * (length bs - h .at) ≤ 65535 * 36873
+  pub room : (k : ℕ) → getD (owed h) k 0 * 9 + 65535 * (length bs - h .at) ≤ 65535 * 36873
 
 -- ---- what holds of a booth after a move
 
@@ -121,7 +133,7 @@ pub record AfterPlay (h r : HeldBooth) : Type 0 where
   pub tick : r .tick ≡ h .tick
   pub point : r .point ≡ h .point
   pub clock : r .clock .0 ≡ h .clock .0 + 1
-  pub falls : (k : ℕ) → getD (r .demand) k 0 ≤ getD (h .demand) k 0
+  pub falls : (k : ℕ) → getD (owed r) k 0 ≤ getD (owed h) k 0
 
 -- the wall tick before which a settled booth cannot work: its next entry's, or the one from which its own clock's tick may be played
 unfoldable pub wakesAt : HeldBooth → ℕ
@@ -145,9 +157,11 @@ lookingAt h at tick point =
       tasks = h .tasks;
       demand = h .demand;
       first = h .first;
+      left = h .left;
       at = at;
       promise = h .promise;
       clock = h .clock;
+      opens = h .opens;
       tick = record { 0 = tick };
       point = record { 0 = point };
     }
@@ -158,6 +172,41 @@ pub record Looked (bs : List ℕ) (h : HeldBooth) (from : ℕ) (r : HeldBooth) :
   pub later : from ≤ r .at
   pub same : waitingAt bs (h .number) (r .at) ≡ waitingAt bs (h .number) from
 
+-- the first task's demand among the others
+unfoldable pub laidDown : HeldBooth → HeldBooth
+laidDown h =
+    record {
+      number = h .number;
+      tasks = h .tasks;
+      demand = owed h;
+      first = h .first;
+      left = h .left;
+      at = h .at;
+      promise = h .promise;
+      clock = h .clock;
+      opens = h .opens;
+      tick = h .tick;
+      point = h .point;
+    }
+
+-- the first task's demand at hand
+unfoldable pub takenUp : HeldBooth → HeldBooth
+takenUp h =
+    record {
+      number = h .number;
+      tasks = h .tasks;
+      demand = h .demand;
+      first = h .first;
+      left = getD (h .demand) (h .first) 0;
+      at = h .at;
+      promise = h .promise;
+      clock = h .clock;
+      opens = h .opens;
+      tick = h .tick;
+      point = h .point;
+    }
+
+-- with this demand
 unfoldable pub demanding : HeldBooth → List ℕ → HeldBooth
 demanding h ds =
     record {
@@ -165,13 +214,16 @@ demanding h ds =
       tasks = h .tasks;
       demand = ds;
       first = firstTask 0 ds;
+      left = getD ds (firstTask 0 ds) 0;
       at = h .at;
       promise = h .promise;
       clock = h .clock;
+      opens = h .opens;
       tick = h .tick;
       point = h .point;
     }
 
+-- with its clock here
 unfoldable pub clockAt : HeldBooth → ℕ → HeldBooth
 clockAt h u =
     record {
@@ -179,9 +231,28 @@ clockAt h u =
       tasks = h .tasks;
       demand = h .demand;
       first = h .first;
+      left = h .left;
       at = h .at;
       promise = h .promise;
       clock = record { 0 = u };
+      opens = opensAt (h .promise) u;
+      tick = h .tick;
+      point = h .point;
+    }
+
+-- its first task played once
+unfoldable pub playedOn : HeldBooth → HeldBooth
+playedOn h =
+    record {
+      number = h .number;
+      tasks = h .tasks;
+      demand = h .demand;
+      first = h .first;
+      left = h .left - 1;
+      at = h .at;
+      promise = h .promise;
+      clock = record { 0 = h .clock .0 + 1 };
+      opens = opensAt (h .promise) (h .clock .0 + 1);
       tick = h .tick;
       point = h .point;
     }

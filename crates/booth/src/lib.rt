@@ -7,16 +7,18 @@ ghost use Rattle.rules.specs.ArrivalLog.{entryAt};
 ghost use Rattle.rules.specs.BoothTable.{Line as PageLine};
 ghost use Rattle.rules.specs.Due as page;
 ghost use Rattle.rules.specs.Moves as moves;
+ghost use Rattle.rules.specs.Opens.{opensAt};
 ghost use Rattle.rules.specs.Session.{freshBooth};
 ghost use Rattle.rules.specs.Values.{lineHeld};
 ghost use Rattle.rules.specs.InRange.{Sound};
 ghost use Rattle.table.specs.Fit.{FitLine};
 ghost use Rattle.arrivals.specs.Places.{waitingAt, Place, WholeLog};
-ghost use Rattle.booth.specs.BoothHeld.{absentBooth, shown, settledAnswer, asked, takesNext, takenNext, wakesAt, Found, Looked, Steady, Fit, Stays, AfterSettle, AfterPlay, AfterAsk, demanding, clockAt, lengthened};
+ghost use Rattle.booth.specs.BoothHeld.{absentBooth, owed, shown, settledAnswer, asked, takesNext, takenNext, goesOn, wakesAt, Found, Looked, Steady, Fit, Stays, AfterSettle, AfterPlay, AfterAsk, laidDown, takenUp, demanding, clockAt, playedOn, lengthened};
 use arrivals::FIRST_ENTRY;
 use rules::ENTRY_BYTES;
 use rules::Line;
 use rules::NOBODY;
+use rules::Opens;
 use rules::OwnTick;
 use rules::Promise;
 use rules::TASKS_ALLOWED;
@@ -32,16 +34,20 @@ pub struct Booth {
     // Below 8, in a whole word, so that no padding is copied with the state.
     pub number: usize,
     pub tasks: usize,
-    // Unplayed demand for each task, and the first task with some, or none.
+    // Unplayed demand for each task, but for the first with some.
     pub demand: [u32; TASKS_ALLOWED],
+    // The first task with demand, or none.
     pub first: usize,
     // Where the first entry that waits lies in the log; its tick and its release point stand below.
     pub at: usize,
     pub promise: Promise,
-    // The own clock u.
+    // The own clock u, and where it lies.
     pub clock: OwnTick,
+    pub opens: Opens,
     pub tick: WallTick,
     pub point: OwnTick,
+    // What the first task has left, apart from the others' demand, so that playing it changes no array.
+    pub left: u32,
 }
 
 // What a settled booth answers.
@@ -92,14 +98,20 @@ impl Booth {
             period: 0,
             allowance: 0,
         };
+        let opens = Opens {
+            from: WallTick(0),
+            into: 0,
+        };
         Booth {
             number: 0,
             tasks: 0,
             demand: [0; TASKS_ALLOWED],
             first: NO_TASK,
+            left: 0,
             at: 0,
             promise,
             clock: OwnTick(0),
+            opens,
             tick: WallTick(NEVER),
             point: OwnTick(0),
         }
@@ -113,14 +125,17 @@ impl Booth {
         ensures state { λ r. ⌜ ((row : List ℕ) → shown (lineHeld line) (now (log .entry)) r row ≡ freshBooth (lineHeld line) (waitingAt (now (log .entry)) number 9)) ⌝ }
     {
         let promise = line.promise;
+        let opens = rules::opens_at(promise, OwnTick(0));
         let booth = Booth {
             number,
             tasks: line.tasks,
             demand: [0; TASKS_ALLOWED],
             first: NO_TASK,
+            left: 0,
             at: FIRST_ENTRY,
             promise,
             clock: OwnTick(0),
+            opens,
             tick: WallTick(NEVER),
             point: OwnTick(0),
         };
@@ -147,21 +162,62 @@ impl Booth {
         self
     }
 
+    // What the first task has left goes back among the demand.
+    fn lay_down(mut self) -> Self
+        requires { ⌜ length (self .demand) ≡ 8 ⌝ }
+        ensures { λ r. ⌜ r ≡ laidDown self ⌝ }
+    {
+        let first = self.first;
+        if TASKS_ALLOWED <= first {
+            return self;
+        }
+        self.demand[first] = self.left;
+        self
+    }
+
+    // What the first task has left is taken to hand.
+    fn take_up(mut self) -> Self
+        requires { ⌜ length (self .demand) ≡ 8 ⌝ }
+        ensures { λ r. ⌜ r ≡ takenUp self ⌝ }
+    {
+        let first = self.first;
+        if TASKS_ALLOWED <= first {
+            self.left = 0;
+            return self;
+        }
+        self.left = self.demand[first];
+        self
+    }
+
     // Task k has d more to play.
     fn add(mut self, k: usize, d: u32) -> Self
-        requires { ⌜ (k < 8) × (0 < d) × (length (self .demand) ≡ 8) × (getD (self .demand) k 0 + d < 4294967296) × (self .first ≡ moves.firstTask 0 (self .demand)) ⌝ }
-        ensures { λ r. ⌜ r ≡ demanding self (set (self .demand) k (getD (self .demand) k 0 + d)) ⌝ }
+        requires { ⌜ (k < 8) × (0 < d) × (length (self .demand) ≡ 8) × (getD (owed self) k 0 + d < 4294967296) × (self .first ≡ moves.firstTask 0 (owed self)) ⌝ }
+        ensures { λ r. ⌜ r ≡ demanding self (set (owed self) k (getD (owed self) k 0 + d)) ⌝ }
     {
+        self = self.lay_down();
         self.demand[k] = self.demand[k] + d;
         if k < self.first {
             self.first = k;
+            return self.take_up();
         }
-        self
+        self.take_up()
+    }
+
+    // The first task has nothing left: the next one with demand is the first.
+    fn turn_over(mut self) -> Self
+        requires { ⌜ length (self .demand) ≡ 8 ⌝ }
+        ensures { λ r. ⌜ r ≡ demanding self (owed self) ⌝ }
+    {
+        self = self.lay_down();
+        let all = self.demand;
+        self.first = rules::first_task(all);
+        self.take_up()
     }
 
     // The own clock moves on to `to`, if it is not there yet.
     fn pass(mut self, row: &mut [u8], to: OwnTick) -> Self
         requires { ⌜ (self .clock .0 ≤ length (now row)) × (to .0 ≤ length (now row)) ⌝ }
+        requires { ⌜ (0 < self .promise .allowance) × (self .opens ≡ opensAt (self .promise) (self .clock .0)) × (page.playableFrom (self .promise) (to .0) < 4294967296) ⌝ }
         ensures state { λ r. ⌜ r ≡ clockAt self (self .clock .0 + (to .0 - self .clock .0)) ⌝ }
         ensures row { λ r. ⌜ now (row .exit) ≡ lengthened (now (row .entry)) (self .clock .0) (replicate (to .0 - self .clock .0) 255) ⌝ }
     {
@@ -172,6 +228,8 @@ impl Booth {
         }
         silence(&mut row[from..end]);
         self.clock = to;
+        let promise = self.promise;
+        self.opens = rules::opens_at(promise, to);
         self
     }
 
@@ -191,7 +249,7 @@ impl Booth {
     // The clock moves on to the first waiting entry's point, and the entry is added to its task.
     fn take_next(mut self, log: &[u8], row: &mut [u8]) -> Self
         requires { ⌜ WholeLog (now log) × Fit (now log) self × (self .at < length (now log)) ⌝ }
-        requires { ⌜ (self .clock .0 ≤ length (now row)) × (self .point .0 ≤ length (now row)) ⌝ }
+        requires { ⌜ (self .clock .0 ≤ length (now row)) × (self .point .0 ≤ length (now row)) × (page.playableFrom (self .promise) (self .point .0) < 4294967296) ⌝ }
         ensures fit { λ r. ⌜ Fit (now (log .entry)) r × (self .at < r .at) × Stays self r ⌝ }
         ensures state { λ r. ⌜ ((l : PageLine) → l .promise ≡ self .promise → shown l (now (log .entry)) r (now (row .exit)) ≡ takenNext (shown l (now (log .entry)) self (now (row .entry)))) ⌝ }
         ensures row { λ r. ⌜ now (row .exit) ≡ lengthened (now (row .entry)) (self .clock .0) (replicate (self .point .0 - self .clock .0) 255) ⌝ }
@@ -249,45 +307,72 @@ impl Booth {
         if first == NO_TASK {
             return Chosen::Nothing;
         }
-        let promise = self.promise;
-        let next = rules::due(promise, WallTick(t.0 + 1));
-        if self.clock.0 < next.0 {
+        if self.opens.from.0 <= t.0 {
             Chosen::Task(first)
         } else {
             Chosen::Nothing
         }
     }
 
+    // The booth goes on at t with the task that it played: it has more than one tick of it left, may play at t, and has no entry to add.
+    pub fn goes_on(self, t: WallTick) -> bool
+        ensures { λ r. ⌜ r ≡ goesOn (t .0) self ⌝ }
+    {
+        if self.first == NO_TASK {
+            return false;
+        }
+        if t.0 < self.opens.from.0 {
+            return false;
+        }
+        if self.left < 2 {
+            return false;
+        }
+        if self.takes(t) {
+            return false;
+        }
+        true
+    }
+
+    // One tick of the first task is played: its number goes into the row at u, u grows by 1.
+    pub fn play_on(mut self, row: &mut [u8], k: usize) -> Self
+        requires { ⌜ Steady self × (k < 8) × (k ≡ self .first) × (self .clock .0 < length (now row)) × (length (now row) < 1000001) × (self .opens .from .0 < 1000001) ⌝ }
+        ensures state { λ r. ⌜ r ≡ playedOn self ⌝ }
+        ensures row { λ r. ⌜ now (row .exit) ≡ set (now (row .entry)) (self .clock .0) (self .first) ⌝ }
+    {
+        let u = self.clock.0;
+        row[u as usize] = k as u8;
+        self.left = self.left - 1;
+        let clock = OwnTick(u + 1);
+        self.clock = clock;
+        let promise = self.promise;
+        let opens = self.opens;
+        self.opens = rules::opens_next(promise, opens);
+        self
+    }
+
     // The booth works: its first task with demand loses 1, its number goes into the row at u, u grows by 1.
     pub fn play(mut self, row: &mut [u8], k: usize) -> Self
-        requires { ⌜ Steady self × (k < 8) × (k ≡ self .first) × (self .clock .0 < length (now row)) × (length (now row) < 1000001) ⌝ }
+        requires { ⌜ Steady self × (k < 8) × (k ≡ self .first) × (self .clock .0 < length (now row)) × (length (now row) < 1000001) × (self .opens .from .0 < 1000001) ⌝ }
         ensures fit { λ r. ⌜ AfterPlay self r ⌝ }
         ensures state { λ r. ⌜ ((l : PageLine) (bs : List ℕ) → shown l bs r (now (row .exit)) ≡ moves.work (shown l bs self (now (row .entry)))) ⌝ }
         ensures row { λ r. ⌜ drop (r .clock .0) (now (row .exit)) ≡ drop (r .clock .0) (now (row .entry)) ⌝ }
     {
-        let u = self.clock.0;
-        row[u as usize] = k as u8;
-        let left = self.demand[k] - 1;
-        self.demand[k] = left;
-        let clock = OwnTick(u + 1);
-        self.clock = clock;
-        if left == 0 {
-            let all = self.demand;
-            self.first = rules::first_task(all);
+        self = self.play_on(row, k);
+        if self.left == 0 {
+            return self.turn_over();
         }
         self
     }
 
     // The wall tick before which the settled booth cannot work.
     pub fn wakes(self) -> WallTick
-        requires { ⌜ Steady self × (page.playableFrom (self .promise) (self .clock .0) < 4294967296) ⌝ }
+        requires { ⌜ Steady self ⌝ }
         ensures { λ r. ⌜ r .0 ≡ wakesAt self ⌝ }
     {
         if self.first == NO_TASK {
             return self.tick;
         }
-        let promise = self.promise;
-        rules::playable_from(promise, self.clock)
+        self.opens.from
     }
 
     // One booth's turn at wall tick t: it settles and, if it then has a task and may work, plays.

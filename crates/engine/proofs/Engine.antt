@@ -10,7 +10,7 @@ use native.Mathlib.Numerals.{add-one}
 use native.Mathlib.Omega.{arith}
 use lib.Dec.{leb, ltb, eqb}
 use lib.ListN.{length-append, length, getD, take, drop, set, replicate, length-set, length-take, length-drop, length-map, take-append-drop}
-use lib.Seq.{getD-set-same, getD-set-other, length-take-le, ext-getD, getD-take, getD-append-add}
+use lib.Seq.{drop-set-lt, getD-set-same, getD-set-other, length-take-le, ext-getD, getD-take, getD-append-add}
 use borrow.Author.Tests.{eqb-true, eqb-false}
 use Rattle.rules.specs.BoothTable.{Line}
 use Rattle.rules.specs.ArrivalLog.{Entry, Log, entryAt}
@@ -31,8 +31,9 @@ use Rattle.laws.proofs.Course.{nobody-works, sleeps, passed-over, plays, closes
 use Rattle.arrivals.specs.Places.{waitingAt, WholeLog}
 use Rattle.booth.specs.declared.Asked.{Asked}
 use Rattle.booth.specs.declared.Booth.{Booth as HeldBooth}
-use Rattle.booth.specs.BoothHeld.{AfterSettle, AfterAsk, shown, asked, wakesAt, Fit}
+use Rattle.booth.specs.BoothHeld.{owed, AfterSettle, AfterAsk, goesOn, playedOn, shown, asked, wakesAt, Fit}
 use Rattle.booth.proofs.Working.{asleep-until}
+use Rattle.booth.proofs.OneTurn.{played-clock, goes-on-asks, goes-on-after, goes-on-shown, goes-on-works}
 use Rattle.arrivals.specs.Places.{entriesOf}
 use Rattle.engine.specs.Running.{nowhere, Same, Alike, Set, Running, Ready, NextAwake, Ending, Ended, OpenedTo}
 
@@ -41,7 +42,7 @@ use Rattle.engine.specs.Running.{nowhere, Same, Alike, Set, Running, Rea
 same-shown : (bs : List ℕ) (h : HeldBooth) (b : Booth) (part : List ℕ) → Same bs h b → b .row ≡ take (h .clock .0) part → shown (b .line) bs h part ≡ b
 unfolding shown
 same-shown bs h b part s r =
-    ap (λ u. record { line = b .line; u = u; left = take (h .tasks) (h .demand); waiting = waitingAt bs (h .number) (h .at); row = take (h .clock .0) part }) (sym (s .clock))
+    ap (λ u. record { line = b .line; u = u; left = take (h .tasks) (owed h); waiting = waitingAt bs (h .number) (h .at); row = take (h .clock .0) part }) (sym (s .clock))
     ∙ ap (λ x. record { line = b .line; u = b .u; left = x; waiting = waitingAt bs (h .number) (h .at); row = take (h .clock .0) part }) (sym (s .left))
     ∙ ap (λ x. record { line = b .line; u = b .u; left = b .left; waiting = x; row = take (h .clock .0) part }) (sym (s .waiting))
     ∙ ap (λ x. record { line = b .line; u = b .u; left = b .left; waiting = b .waiting; row = x }) (sym r)
@@ -481,6 +482,31 @@ module _ {ls : List Line} {n H : ℕ} {bs wall₀ own₀ : List ℕ} {t i : ℕ}
         })
 
 -- ---- the booths that sleep are passed over
+
+-- a booth that goes on plays, and leaves the part with its task written
+module _ {ls : List Line} {n H : ℕ} {bs wall₀ own₀ : List ℕ} {t i : ℕ} {hs : List HeldBooth} {wakes worked : List ℕ} {idle : ℕ} {wall own : List ℕ}
+    (g : Going ls n H bs wall₀ own₀ t i hs wakes worked idle wall own) (e : i ≡ n → ⊥) (less : t < H) (w : ℕ) (q : w ≡ H) where
+  abbrev singer : HeldBooth
+  singer = getD hs i nowhere
+
+  abbrev part₀ : List ℕ
+  part₀ = take w (drop (i * H) own)
+
+  pub going-on-plays : goesOn t singer ≡ true → (played : HeldBooth) (part : List ℕ) → played ≡ playedOn singer → part ≡ set part₀ (singer .clock .0) (singer .first)
+      → Going ls n H bs wall₀ own₀ (t + 1) 0 (set hs i played) (set wakes i (played .opens .from .0)) (set worked i (getD worked i 0 + 1)) idle (set wall t i)
+      (take (i * H) own ++ (part ++ drop w (drop (i * H) own)))
+  going-on-plays on played part is written =
+      let asks = turn-asks g e less w q in
+      let inside = goes-on-asks bs t singer part₀ (asks .1) (asks .2) (asks .3) (asks .4) on .3 in
+      going-plays g e less w q (record { booth = played; wakes = played .opens .from; worked = true }) part
+      (subst (λ (x : HeldBooth). AfterAsk bs t singer (record { booth = x; wakes = x .opens .from; worked = true })) (sym is) (goes-on-after bs t singer part₀ (asks .0) (asks .1) (asks .4) inside on))
+      (λ l p. ap (λ x. shown l bs x part) is ∙ ap (shown l bs (playedOn singer)) written ∙ goes-on-shown bs t singer part₀ (asks .0) (asks .1) (asks .4) inside on l p)
+      (λ l p. goes-on-works bs t singer part₀ (asks .0) (asks .1) (asks .4) inside on l p)
+      (ap (drop (played .clock .0)) written ∙ drop-set-lt (played .clock .0) part₀ (singer .clock .0) (singer .first) (omega (arith, clock is)))
+      (ap length written ∙ length-set part₀ (singer .clock .0) (singer .first)) refl
+    where
+      clock : played ≡ playedOn singer → played .clock .0 ≡ singer .clock .0 + 1
+      clock p = ap (λ (x : HeldBooth). x .clock .0) p ∙ played-clock singer
 
 module _ {ls : List Line} {n H : ℕ} {bs wall₀ own₀ : List ℕ} {t : ℕ} {hs : List HeldBooth} {wakes worked : List ℕ} {idle : ℕ} {wall own : List ℕ} where
   sleeps-on : (d i : ℕ) → Going ls n H bs wall₀ own₀ t i hs wakes worked idle wall own → i + d ≤ n → ((j : ℕ) → j < i + d → i ≤ j → t < getD wakes j 0)

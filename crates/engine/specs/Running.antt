@@ -14,7 +14,7 @@ use Rattle.table.specs.Fit.{FitTable}
 use Rattle.arrivals.specs.Places.{entriesFrom, waitingAt, Place, WholeLog, entriesOf}
 use Rattle.laws.specs.Courses.{AsRead, nobooth, Course, Closing}
 use Rattle.booth.specs.declared.Booth.{Booth as HeldBooth}
-use Rattle.booth.specs.BoothHeld.{shown, Fit}
+use Rattle.booth.specs.BoothHeld.{owed, shown, Fit}
 use Rattle.engine.specs.declared.Stage.{Stage}
 
 -- stands past the end of an array of booths, where nothing is read
@@ -25,9 +25,11 @@ nowhere =
       tasks = 0;
       demand = [];
       first = 0;
+      left = 0;
       at = 0;
       promise = record { period = 0; allowance = 0 };
       clock = record { 0 = 0 };
+      opens = record { from = record { 0 = 0 }; into = 0 };
       tick = record { 0 = 0 };
       point = record { 0 = 0 };
     }
@@ -36,7 +38,7 @@ nowhere =
 pub record Same (bs : List ℕ) (h : HeldBooth) (b : Booth) : Type 0 where
   pub promise : b .line .promise ≡ h .promise
   pub clock : b .u ≡ h .clock .0
-  pub left : b .left ≡ take (h .tasks) (h .demand)
+  pub left : b .left ≡ take (h .tasks) (owed h)
   pub waiting : b .waiting ≡ waitingAt bs (h .number) (h .at)
 
 pub record Alike (bs : List ℕ) (n : ℕ) (hs : List HeldBooth) (booths : List Booth) : Type 0 where
@@ -85,6 +87,10 @@ pub record Ready (n H : ℕ) (start : List HeldBooth) (bs wall own : List ℕ) :
   pub set : Set lines n H bs own
   pub wall-room : H ≤ length wall
   pub running : Running lines H bs wall own 0 0 start (replicate 8 0) (replicate 8 0) 0 wall own
+
+-- no booth wakes before this wall tick
+abbrev pub SleepTo : List ℕ → ℕ → ℕ → Type 0
+SleepTo wakes n soonest = (j : ℕ) → j < n → soonest ≤ getD wakes j 0
 
 -- the booths from one on sleep at t, up to the first that is awake
 pub record NextAwake (wakes : List ℕ) (n from t r : ℕ) : Type 0 where

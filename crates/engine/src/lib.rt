@@ -1,7 +1,7 @@
 // The plain engine: every wall tick in turn, booth after booth, then all booths settle at H.
 ghost use mathlib.Core.Path.{_≡_};
 ghost use Prim.Native.Nat.{_≤_};
-ghost use Rattle.engine.specs.Running.{ToOpen, Opened, Ready, NextAwake, Ran, Ended, Closed};
+ghost use Rattle.engine.specs.Running.{ToOpen, Opened, Ready, SleepTo, NextAwake, Ran, Ended, Closed};
 use booth::Booth;
 use rules::BOOTHS_ALLOWED;
 use rules::NOBODY;
@@ -44,11 +44,20 @@ pub fn open_all(table: Table, log: &[u8]) -> [Booth; BOOTHS_ALLOWED]
     booths
 }
 
-// The first booth from `from` on that is awake at `t`; n where all of them sleep.
-fn next_awake(wakes: &[usize; BOOTHS_ALLOWED], n: usize, from: usize, t: usize) -> usize
-    requires { ⌜ (from ≤ n) × (n ≤ 8) ⌝ }
+// The first booth from `from` on that is awake at `t`; n where all of them sleep, as they do before `soonest`.
+fn next_awake(
+    wakes: &[usize; BOOTHS_ALLOWED],
+    n: usize,
+    from: usize,
+    t: usize,
+    soonest: usize,
+) -> usize
+    requires { ⌜ (from ≤ n) × (n ≤ 8) × SleepTo (now wakes) n soonest ⌝ }
     ensures { λ r. ⌜ NextAwake (now (wakes .entry)) n from t r ⌝ }
 {
+    if t < soonest {
+        return n;
+    }
     let mut i = from;
     while i < n {
         if wakes[i] <= t {
@@ -57,6 +66,32 @@ fn next_awake(wakes: &[usize; BOOTHS_ALLOWED], n: usize, from: usize, t: usize) 
         i += 1;
     }
     i
+}
+
+fn sooner(a: usize, b: usize) -> usize
+    ensures { λ r. ⌜ (r ≤ a) × (r ≤ b) ⌝ }
+{
+    if a < b {
+        return a;
+    }
+    b
+}
+
+// The wall tick before which all booths sleep, `end` at the latest; looked for anew once the one that was known is reached.
+fn sleep_to(wakes: &[usize; BOOTHS_ALLOWED], n: usize, t: usize, known: usize, end: usize) -> usize
+    requires { ⌜ (n ≤ 8) × SleepTo (now wakes) n known ⌝ }
+    ensures { λ r. ⌜ SleepTo (now (wakes .entry)) n r ⌝ }
+{
+    if t < known {
+        return known;
+    }
+    let mut soonest = end;
+    let mut i = 0;
+    while i < n {
+        soonest = sooner(soonest, wakes[i]);
+        i += 1;
+    }
+    soonest
 }
 
 // Wall tick after wall tick, booth after booth: i booths were asked at t in vain. A booth that cannot work before it wakes is passed over.
@@ -77,16 +112,30 @@ pub fn run(
     let mut idle: u32 = 0;
     let mut t = 0;
     let mut i = 0;
+    let mut soonest = 0;
     while t < h {
-        i = next_awake(&wakes, n, i, t);
+        i = next_awake(&wakes, n, i, t, soonest);
         if i == n {
+            soonest = sleep_to(&wakes, n, t, soonest, h);
             wall[t] = NOBODY;
             idle += 1;
             t += 1;
             i = 0;
             continue;
         }
+        soonest = 0;
         let a = i * h;
+        if booths[i].goes_on(WallTick(t as u32)) {
+            let k = booths[i].first;
+            let booth = booths[i].play_on(&mut own[a..a + h], k);
+            booths[i] = booth;
+            wakes[i] = booth.opens.from.0 as usize;
+            wall[t] = i as u8;
+            worked[i] += 1;
+            t += 1;
+            i = 0;
+            continue;
+        }
         let asked = booths[i].ask(log, &mut own[a..a + h], WallTick(t as u32));
         let booth = asked.booth;
         booths[i] = booth;

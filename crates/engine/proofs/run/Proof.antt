@@ -5,62 +5,163 @@ use Prim.Native.Nat.{ℕ, suc, _+_, _*_, _-_, _≤_, _<_}
 use native.Mathlib.Omega.{arith}
 use borrow.Author.Needs.{needs}
 use lib.ListN.{length, getD, take, drop, set}
-use Rattle.engine.specs.Running.{Running, Ready}
-use Rattle.engine.proofs.Engine.{Going, row-inside, going-first, going-nobody, going-on, turn-asks, going-passed, going-plays, worked-fits}
+use Rattle.booth.proofs.OneTurn.{goes-on-asks}
+use Rattle.engine.specs.Running.{nowhere, SleepTo, Running, Ready}
+use Rattle.engine.proofs.Engine.{Going, row-inside, going-first, going-nobody, going-on, turn-asks, going-passed, going-plays, going-on-plays, worked-fits}
 use Rattle.engine.proofs.run.Statement.{statement}
 use Rattle.engine.proofs.run.Tie as tie
 
+-- no booth wakes before `soonest`, and the session is going
 abbrev Inv-loop : tie.InvT-loop
-Inv-loop n log wall₀ own₀ h booths₀ wakes₀ worked₀ idle₀ t₀ i₀ wall own booths wakes worked idle t i =
-    (e : Ready n h booths₀ log wall₀ own₀) → Going (e .lines) n h log wall₀ own₀ t i booths wakes worked idle wall own
+Inv-loop n log wall₀ own₀ h booths₀ wakes₀ worked₀ idle₀ t₀ i₀ soonest₀ wall own booths wakes worked idle t i soonest =
+    SleepTo wakes n soonest × ((e : Ready n h booths₀ log wall₀ own₀) → Going (e .lines) n h log wall₀ own₀ t i booths wakes worked idle wall own)
 
 abbrev μ-loop : tie.MeasureT-loop
-μ-loop n log wall₀ own₀ h booths₀ wakes₀ worked₀ idle₀ t₀ i₀ wall own booths wakes worked idle t i =
+μ-loop n log wall₀ own₀ h booths₀ wakes₀ worked₀ idle₀ t₀ i₀ soonest₀ wall own booths wakes worked idle t i soonest =
     (h - t) * 9 + (n - i)
 
 loop-holds : tie.Need-loop-holds Inv-loop μ-loop
-loop-holds c = λ e. going-first e
+loop-holds c = (λ j l. omega arith, λ e. going-first e)
 
 next-awake-requires : tie.Need-next-awake-requires Inv-loop μ-loop
-next-awake-requires c κs = let g = c .before .before .loop .inv (c .before .before .before .before .before .before .pre) in (g .within, g .few)
+next-awake-requires c κs =
+    let g = c .before .before .loop .inv .1 (c .before .before .before .before .before .before .pre) in
+    (g .within, g .few, c .before .before .loop .inv .0)
 
 -- what holds once the booths that sleep are passed over
 woken : (c : tie.After-next-awake Inv-loop μ-loop)
     → (e : Ready (c .before .before .before .before .before .before .before .args .n) (c .before .before .before .before .before .before .before .args .h) (c .before .before .before .before .before .before .before .args .start) (c .before .before .before .before .before .before .before .args .log .now) (c .before .before .before .before .before .before .before .args .wall .now) (c .before .before .before .before .before .before .before .args .own .now))
     → Going (e .lines) (c .before .before .before .before .before .before .before .args .n) (c .before .before .before .before .before .before .before .args .h) (c .before .before .before .before .before .before .before .args .log .now) (c .before .before .before .before .before .before .before .args .wall .now) (c .before .before .before .before .before .before .before .args .own .now)
     (c .before .before .before .loop .t) (c .next-awake .result) (c .before .before .before .loop .booths) (c .before .before .before .loop .wakes) (c .before .before .before .loop .worked) (c .before .before .before .loop .idle) (c .before .before .before .loop .wall) (c .before .before .before .loop .own)
-woken c e = going-on (c .before .before .before .loop .inv e) (c .next-awake .ensures)
-
-slice-write-wall : tie.Need-slice-write-wall Inv-loop μ-loop
-slice-write-wall c = omega (arith, woken (c .before) (c .before .before .before .before .before .before .before .before .pre), c .before .before .before .loop-test .taken)
-
-add-idle : tie.Need-add-idle Inv-loop μ-loop
-add-idle c = record { fits = omega (arith, woken (c .before) (c .before .before .before .before .before .before .before .before .pre), c .before .before .before .loop-test .taken) }
-
-add-t : tie.Need-add-t Inv-loop μ-loop
-add-t c = record { fits = omega (arith, woken (c .before) (c .before .before .before .before .before .before .before .before .pre), c .before .before .before .loop-test .taken) }
-
-loop-less : tie.Need-loop-less Inv-loop μ-loop
-loop-less c = omega (arith, woken (c .before) (c .before .before .before .before .before .before .before .before .pre), c .before .before .before .loop-test .taken, c .before .before .before .before .loop .inv (c .before .before .before .before .before .before .before .before .pre))
-
-loop-again : tie.Need-loop-again Inv-loop μ-loop
-loop-again c = λ e. going-nobody (woken (c .before) e) (c .if1 .taken) (c .before .before .before .loop-test .taken)
+woken c e = going-on (c .before .before .before .loop .inv .1 e) (c .next-awake .ensures)
 
 -- booth i's part lies inside the own record
 inside : (c : tie.After-next-awake Inv-loop μ-loop) → (c .next-awake .result ≡ c .before .before .before .before .before .before .before .args .n → ⊥) → c .next-awake .result * c .before .before .before .before .before .before .before .args .h + c .before .before .before .before .before .before .before .args .h ≤ length (c .before .before .before .loop .own)
 inside c e = omega (arith, woken c (c .before .before .before .before .before .before .before .pre), row-inside (c .next-awake .result) (c .before .before .before .before .before .before .before .args .n) (c .before .before .before .before .before .before .before .args .h) (omega (arith, woken c (c .before .before .before .before .before .before .before .pre))))
 
+sleep-to-requires : tie.Need-sleep-to-requires Inv-loop μ-loop
+sleep-to-requires c κs = ((c .before .before .before .before .before .loop .inv .1 (c .before .before .before .before .before .before .before .before .before .pre)) .few, c .before .before .before .before .before .loop .inv .0)
+
+slice-write-wall : tie.Need-slice-write-wall Inv-loop μ-loop
+slice-write-wall c = omega (arith, woken (c .before .before .before) (c .before .before .before .before .before .before .before .before .before .before .pre), c .before .before .before .before .before .loop-test .taken)
+
+add-idle : tie.Need-add-idle Inv-loop μ-loop
+add-idle c = record { fits = omega (arith, woken (c .before .before .before) (c .before .before .before .before .before .before .before .before .before .before .pre), c .before .before .before .before .before .loop-test .taken) }
+
+add-t : tie.Need-add-t Inv-loop μ-loop
+add-t c = record { fits = omega (arith, woken (c .before .before .before) (c .before .before .before .before .before .before .before .before .before .before .pre), c .before .before .before .before .before .loop-test .taken) }
+
+loop-less : tie.Need-loop-less Inv-loop μ-loop
+loop-less c = omega (arith, woken (c .before .before .before) (c .before .before .before .before .before .before .before .before .before .before .pre), c .before .before .before .before .before .loop-test .taken, c .before .before .before .before .before .before .loop .inv .1 (c .before .before .before .before .before .before .before .before .before .before .pre))
+
+loop-again : tie.Need-loop-again Inv-loop μ-loop
+loop-again c = (c .sleep-to .ensures, λ e. going-nobody (woken (c .before .before .before) e) (c .before .before .if1 .taken) (c .before .before .before .before .before .loop-test .taken))
+
 mul-a : tie.Need-mul-a Inv-loop μ-loop
 mul-a c = omega (arith, woken (c .before) (c .before .before .before .before .before .before .before .before .pre), inside (c .before) (c .if1 .left))
 
+mul-goes-on : tie.Need-mul-goes-on Inv-loop μ-loop
+mul-goes-on c = omega (arith, woken (c .before) (c .before .before .before .before .before .before .before .before .pre), c .if1 .left)
+
+array-copy-out-goes-on : tie.Need-array-copy-out-goes-on Inv-loop μ-loop
+array-copy-out-goes-on c = omega (arith, woken (c .before) (c .before .before .before .before .before .before .before .before .pre), c .if1 .left)
+
+cast-t28 : tie.Need-cast-t28 Inv-loop μ-loop
+cast-t28 c = omega (arith, woken (c .before .before) (c .before .before .before .before .before .before .before .before .before .pre), c .before .before .before .before .loop-test .taken)
+
+goes-on-requires : tie.Need-goes-on-requires Inv-loop μ-loop
+goes-on-requires c κs = search needs
+
+mul-k : tie.Need-mul-k Inv-loop μ-loop
+mul-k c = omega (arith, woken (c .before .before .before .before) (c .before .before .before .before .before .before .before .before .before .before .before .pre), c .before .before .before .if1 .left)
+
+element-copy-out-k : tie.Need-element-copy-out-k Inv-loop μ-loop
+element-copy-out-k c = omega (arith, woken (c .before .before .before .before) (c .before .before .before .before .before .before .before .before .before .before .before .pre), c .before .before .before .if1 .left)
+
+mul-play-on : tie.Need-mul-play-on Inv-loop μ-loop
+mul-play-on c = omega (arith, woken (c .before .before .before .before) (c .before .before .before .before .before .before .before .before .before .before .before .pre), c .before .before .before .if1 .left)
+
+array-copy-out-play-on : tie.Need-array-copy-out-play-on Inv-loop μ-loop
+array-copy-out-play-on c = omega (arith, woken (c .before .before .before .before) (c .before .before .before .before .before .before .before .before .before .before .before .pre), c .before .before .before .if1 .left)
+
+add-play-on : tie.Need-add-play-on Inv-loop μ-loop
+add-play-on c = omega (arith, woken (c .before .before .before .before .before) (c .before .before .before .before .before .before .before .before .before .before .before .before .pre), inside (c .before .before .before .before .before) (c .before .before .before .before .if1 .left))
+
+sub-play-on : tie.Need-sub-play-on Inv-loop μ-loop
+sub-play-on c = search needs
+
+part-play-on-start : tie.Need-part-play-on-start Inv-loop μ-loop
+part-play-on-start c = search needs
+
+part-play-on-end : tie.Need-part-play-on-end Inv-loop μ-loop
+part-play-on-end c = omega (arith, inside (c .before .before .before .before .before) (c .before .before .before .before .if1 .left))
+
+play-on-requires : tie.Need-play-on-requires Inv-loop μ-loop
+play-on-requires c κs =
+    let i = c .before .before .before .before .before .before .next-awake .result in
+    let start = c .before .before .before .before .before .before .before .before .before .before .before .before .before in
+    let a = i * start .args .h in
+    let w = a + start .args .h - a in
+    let row = take w (drop a (c .before .before .before .before .before .before .before .before .before .loop .own)) in
+    let asks = turn-asks (woken (c .before .before .before .before .before .before) (start .pre)) (c .before .before .before .before .before .if1 .left) (c .before .before .before .before .before .before .before .before .loop-test .taken) w (omega arith) in
+    goes-on-asks (start .args .log .now) (c .before .before .before .before .before .before .before .before .before .loop .t) (getD (c .before .before .before .before .before .before .before .before .before .loop .booths) i nowhere) row (asks .1) (asks .2) (asks .3) (asks .4) (sym (c .before .before .before .goes-on .ensures) ∙ c .before .before .if2 .taken)
+
+mul-booths : tie.Need-mul-booths Inv-loop μ-loop
+mul-booths c = omega (arith, woken (c .before .before .before .before .before .before .before .before .before) (c .before .before .before .before .before .before .before .before .before .before .before .before .before .before .before .before .pre), c .before .before .before .before .before .before .before .before .if1 .left)
+
+array-set-from-booths : tie.Need-array-set-from-booths Inv-loop μ-loop
+array-set-from-booths c = omega (arith, woken (c .before .before .before .before .before .before .before .before .before) (c .before .before .before .before .before .before .before .before .before .before .before .before .before .before .before .before .pre), c .before .before .before .before .before .before .before .before .if1 .left)
+
+cast-wakes : tie.Need-cast-wakes Inv-loop μ-loop
+cast-wakes c = search needs
+
+mul-wakes : tie.Need-mul-wakes Inv-loop μ-loop
+mul-wakes c = omega (arith, woken (c .before .before .before .before .before .before .before .before .before .before) (c .before .before .before .before .before .before .before .before .before .before .before .before .before .before .before .before .before .pre), c .before .before .before .before .before .before .before .before .before .if1 .left)
+
+array-write-wakes : tie.Need-array-write-wakes Inv-loop μ-loop
+array-write-wakes c = omega (arith, woken (c .before .before .before .before .before .before .before .before .before .before) (c .before .before .before .before .before .before .before .before .before .before .before .before .before .before .before .before .before .pre), c .before .before .before .before .before .before .before .before .before .if1 .left)
+
+cast-wall : tie.Need-cast-wall Inv-loop μ-loop
+cast-wall c = omega (arith, woken (c .before .before .before .before .before .before .before .before .before .before) (c .before .before .before .before .before .before .before .before .before .before .before .before .before .before .before .before .before .pre), c .before .before .before .before .before .before .before .before .before .if1 .left)
+
+slice-write-wall-2 : tie.Need-slice-write-wall-2 Inv-loop μ-loop
+slice-write-wall-2 c = omega (arith, woken (c .before .before .before .before .before .before .before .before .before .before) (c .before .before .before .before .before .before .before .before .before .before .before .before .before .before .before .before .before .pre), c .before .before .before .before .before .before .before .before .before .before .before .before .loop-test .taken)
+
+mul-worked : tie.Need-mul-worked Inv-loop μ-loop
+mul-worked c = omega (arith, woken (c .before .before .before .before .before .before .before .before .before .before) (c .before .before .before .before .before .before .before .before .before .before .before .before .before .before .before .before .before .pre), c .before .before .before .before .before .before .before .before .before .if1 .left)
+
+array-read-worked : tie.Need-array-read-worked Inv-loop μ-loop
+array-read-worked c = omega (arith, woken (c .before .before .before .before .before .before .before .before .before .before) (c .before .before .before .before .before .before .before .before .before .before .before .before .before .before .before .before .before .pre), c .before .before .before .before .before .before .before .before .before .if1 .left)
+
+add-worked : tie.Need-add-worked Inv-loop μ-loop
+add-worked c = record { fits = worked-fits (woken (c .before .before .before .before .before .before .before .before .before .before) (c .before .before .before .before .before .before .before .before .before .before .before .before .before .before .before .before .before .pre)) (c .before .before .before .before .before .before .before .before .before .if1 .left) }
+
+array-write-worked : tie.Need-array-write-worked Inv-loop μ-loop
+array-write-worked c = omega (arith, woken (c .before .before .before .before .before .before .before .before .before .before) (c .before .before .before .before .before .before .before .before .before .before .before .before .before .before .before .before .before .pre), c .before .before .before .before .before .before .before .before .before .if1 .left)
+
+add-t-2 : tie.Need-add-t-2 Inv-loop μ-loop
+add-t-2 c = omega (arith, woken (c .before .before .before .before .before .before .before .before .before .before) (c .before .before .before .before .before .before .before .before .before .before .before .before .before .before .before .before .before .pre), c .before .before .before .before .before .before .before .before .before .before .before .before .loop-test .taken)
+
+loop-less-2 : tie.Need-loop-less-2 Inv-loop μ-loop
+loop-less-2 c = omega (arith, woken (c .before .before .before .before .before .before .before .before .before .before) (c .before .before .before .before .before .before .before .before .before .before .before .before .before .before .before .before .before .pre), c .before .before .before .before .before .before .before .before .before .before .before .before .loop-test .taken, c .before .before .before .before .before .before .before .before .before .before .before .before .before .loop .inv .1 (c .before .before .before .before .before .before .before .before .before .before .before .before .before .before .before .before .before .pre))
+
+loop-again-2 : tie.Need-loop-again-2 Inv-loop μ-loop
+loop-again-2 c = (
+  λ j l. omega arith,
+  λ e.
+      let a = c .before .before .before .before .before .before .before .before .before .before .next-awake .result * c .before .before .before .before .before .before .before .before .before .before .before .before .before .before .before .before .before .args .h in
+      let plays = c .before .before .before .play-on in
+      going-on-plays (woken (c .before .before .before .before .before .before .before .before .before .before) e) (c .before .before .before .before .before .before .before .before .before .if1 .left) (c .before .before .before .before .before .before .before .before .before .before .before .before .loop-test .taken) (a + c .before .before .before .before .before .before .before .before .before .before .before .before .before .before .before .before .before .args .h - a) (omega arith) (sym (c .before .before .before .before .before .before .before .goes-on .ensures) ∙ c .before .before .before .before .before .before .if2 .taken) (plays .result) (plays .last .1 .0) (plays .ensures .0) (plays .ensures .1),
+)
+
 mul-ask : tie.Need-mul-ask Inv-loop μ-loop
-mul-ask c = omega (arith, woken (c .before) (c .before .before .before .before .before .before .before .before .pre), c .if1 .left)
+mul-ask c = omega (arith, woken (c .before .before .before .before) (c .before .before .before .before .before .before .before .before .before .before .before .pre), c .before .before .before .if1 .left)
 
 array-copy-out-ask : tie.Need-array-copy-out-ask Inv-loop μ-loop
-array-copy-out-ask c = omega (arith, woken (c .before) (c .before .before .before .before .before .before .before .before .pre), c .if1 .left)
+array-copy-out-ask c = omega (arith, woken (c .before .before .before .before) (c .before .before .before .before .before .before .before .before .before .before .before .pre), c .before .before .before .if1 .left)
 
 add-ask : tie.Need-add-ask Inv-loop μ-loop
-add-ask c = omega (arith, woken (c .before .before) (c .before .before .before .before .before .before .before .before .before .pre), inside (c .before .before) (c .before .if1 .left))
+add-ask c = omega (arith, woken (c .before .before .before .before .before) (c .before .before .before .before .before .before .before .before .before .before .before .before .pre), inside (c .before .before .before .before .before) (c .before .before .before .before .if1 .left))
 
 sub-ask : tie.Need-sub-ask Inv-loop μ-loop
 sub-ask c = search needs
@@ -69,89 +170,95 @@ part-ask-start : tie.Need-part-ask-start Inv-loop μ-loop
 part-ask-start c = search needs
 
 part-ask-end : tie.Need-part-ask-end Inv-loop μ-loop
-part-ask-end c = omega (arith, inside (c .before .before) (c .before .if1 .left))
+part-ask-end c = omega (arith, inside (c .before .before .before .before .before) (c .before .before .before .before .if1 .left))
 
-cast-t28 : tie.Need-cast-t28 Inv-loop μ-loop
-cast-t28 c = omega (arith, woken (c .before .before .before) (c .before .before .before .before .before .before .before .before .before .before .pre), c .before .before .before .before .before .loop-test .taken)
+cast-t28-2 : tie.Need-cast-t28-2 Inv-loop μ-loop
+cast-t28-2 c = omega (arith, woken (c .before .before .before .before .before .before) (c .before .before .before .before .before .before .before .before .before .before .before .before .before .pre), c .before .before .before .before .before .before .before .before .loop-test .taken)
 
 ask-requires : tie.Need-ask-requires Inv-loop μ-loop
 ask-requires c κs =
-    let a = c .before .before .before .next-awake .result * c .before .before .before .before .before .before .before .before .before .before .args .h in
-    turn-asks (woken (c .before .before .before) (c .before .before .before .before .before .before .before .before .before .before .pre)) (c .before .before .if1 .left) (c .before .before .before .before .before .loop-test .taken) (a + c .before .before .before .before .before .before .before .before .before .before .args .h - a) (omega arith)
+    let a = c .before .before .before .before .before .before .next-awake .result * c .before .before .before .before .before .before .before .before .before .before .before .before .before .args .h in
+    turn-asks (woken (c .before .before .before .before .before .before) (c .before .before .before .before .before .before .before .before .before .before .before .before .before .pre)) (c .before .before .before .before .before .if1 .left) (c .before .before .before .before .before .before .before .before .loop-test .taken) (a + c .before .before .before .before .before .before .before .before .before .before .before .before .before .args .h - a) (omega arith)
 
-mul-booths : tie.Need-mul-booths Inv-loop μ-loop
-mul-booths c = omega (arith, woken (c .before .before .before .before .before .before .before) (c .before .before .before .before .before .before .before .before .before .before .before .before .before .before .pre), c .before .before .before .before .before .before .if1 .left)
+mul-booths-2 : tie.Need-mul-booths-2 Inv-loop μ-loop
+mul-booths-2 c = omega (arith, woken (c .before .before .before .before .before .before .before .before .before .before) (c .before .before .before .before .before .before .before .before .before .before .before .before .before .before .before .before .before .pre), c .before .before .before .before .before .before .before .before .before .if1 .left)
 
-array-set-from-booths : tie.Need-array-set-from-booths Inv-loop μ-loop
-array-set-from-booths c = omega (arith, woken (c .before .before .before .before .before .before .before) (c .before .before .before .before .before .before .before .before .before .before .before .before .before .before .pre), c .before .before .before .before .before .before .if1 .left)
+array-set-from-booths-2 : tie.Need-array-set-from-booths-2 Inv-loop μ-loop
+array-set-from-booths-2 c = omega (arith, woken (c .before .before .before .before .before .before .before .before .before .before) (c .before .before .before .before .before .before .before .before .before .before .before .before .before .before .before .before .before .pre), c .before .before .before .before .before .before .before .before .before .if1 .left)
 
-cast-wakes : tie.Need-cast-wakes Inv-loop μ-loop
-cast-wakes c = search needs
+cast-wakes-2 : tie.Need-cast-wakes-2 Inv-loop μ-loop
+cast-wakes-2 c = search needs
 
-mul-wakes : tie.Need-mul-wakes Inv-loop μ-loop
-mul-wakes c = omega (arith, woken (c .before .before .before .before .before .before .before .before) (c .before .before .before .before .before .before .before .before .before .before .before .before .before .before .before .pre), c .before .before .before .before .before .before .before .if1 .left)
+mul-wakes-2 : tie.Need-mul-wakes-2 Inv-loop μ-loop
+mul-wakes-2 c = omega (arith, woken (c .before .before .before .before .before .before .before .before .before .before .before) (c .before .before .before .before .before .before .before .before .before .before .before .before .before .before .before .before .before .before .pre), c .before .before .before .before .before .before .before .before .before .before .if1 .left)
 
-array-write-wakes : tie.Need-array-write-wakes Inv-loop μ-loop
-array-write-wakes c = omega (arith, woken (c .before .before .before .before .before .before .before .before) (c .before .before .before .before .before .before .before .before .before .before .before .before .before .before .before .pre), c .before .before .before .before .before .before .before .if1 .left)
+array-write-wakes-2 : tie.Need-array-write-wakes-2 Inv-loop μ-loop
+array-write-wakes-2 c = omega (arith, woken (c .before .before .before .before .before .before .before .before .before .before .before) (c .before .before .before .before .before .before .before .before .before .before .before .before .before .before .before .before .before .before .pre), c .before .before .before .before .before .before .before .before .before .before .if1 .left)
 
-cast-wall : tie.Need-cast-wall Inv-loop μ-loop
-cast-wall c = omega (arith, woken (c .before .before .before .before .before .before .before .before .before) (c .before .before .before .before .before .before .before .before .before .before .before .before .before .before .before .before .pre), c .before .before .before .before .before .before .before .before .if1 .left)
+cast-wall-2 : tie.Need-cast-wall-2 Inv-loop μ-loop
+cast-wall-2 c = omega (arith, woken (c .before .before .before .before .before .before .before .before .before .before .before .before) (c .before .before .before .before .before .before .before .before .before .before .before .before .before .before .before .before .before .before .before .pre), c .before .before .before .before .before .before .before .before .before .before .before .if1 .left)
 
-slice-write-wall-2 : tie.Need-slice-write-wall-2 Inv-loop μ-loop
-slice-write-wall-2 c = omega (arith, woken (c .before .before .before .before .before .before .before .before .before) (c .before .before .before .before .before .before .before .before .before .before .before .before .before .before .before .before .pre), c .before .before .before .before .before .before .before .before .before .before .before .loop-test .taken)
+slice-write-wall-3 : tie.Need-slice-write-wall-3 Inv-loop μ-loop
+slice-write-wall-3 c = omega (arith, woken (c .before .before .before .before .before .before .before .before .before .before .before .before) (c .before .before .before .before .before .before .before .before .before .before .before .before .before .before .before .before .before .before .before .pre), c .before .before .before .before .before .before .before .before .before .before .before .before .before .before .loop-test .taken)
 
-mul-worked : tie.Need-mul-worked Inv-loop μ-loop
-mul-worked c = omega (arith, woken (c .before .before .before .before .before .before .before .before .before) (c .before .before .before .before .before .before .before .before .before .before .before .before .before .before .before .before .pre), c .before .before .before .before .before .before .before .before .if1 .left)
+mul-worked-2 : tie.Need-mul-worked-2 Inv-loop μ-loop
+mul-worked-2 c = omega (arith, woken (c .before .before .before .before .before .before .before .before .before .before .before .before) (c .before .before .before .before .before .before .before .before .before .before .before .before .before .before .before .before .before .before .before .pre), c .before .before .before .before .before .before .before .before .before .before .before .if1 .left)
 
-array-read-worked : tie.Need-array-read-worked Inv-loop μ-loop
-array-read-worked c = omega (arith, woken (c .before .before .before .before .before .before .before .before .before) (c .before .before .before .before .before .before .before .before .before .before .before .before .before .before .before .before .pre), c .before .before .before .before .before .before .before .before .if1 .left)
+array-read-worked-2 : tie.Need-array-read-worked-2 Inv-loop μ-loop
+array-read-worked-2 c = omega (arith, woken (c .before .before .before .before .before .before .before .before .before .before .before .before) (c .before .before .before .before .before .before .before .before .before .before .before .before .before .before .before .before .before .before .before .pre), c .before .before .before .before .before .before .before .before .before .before .before .if1 .left)
 
-add-worked : tie.Need-add-worked Inv-loop μ-loop
-add-worked c = record { fits = worked-fits (woken (c .before .before .before .before .before .before .before .before .before) (c .before .before .before .before .before .before .before .before .before .before .before .before .before .before .before .before .pre)) (c .before .before .before .before .before .before .before .before .if1 .left) }
+add-worked-2 : tie.Need-add-worked-2 Inv-loop μ-loop
+add-worked-2 c = record { fits = worked-fits (woken (c .before .before .before .before .before .before .before .before .before .before .before .before) (c .before .before .before .before .before .before .before .before .before .before .before .before .before .before .before .before .before .before .before .pre)) (c .before .before .before .before .before .before .before .before .before .before .before .if1 .left) }
 
-array-write-worked : tie.Need-array-write-worked Inv-loop μ-loop
-array-write-worked c = omega (arith, woken (c .before .before .before .before .before .before .before .before .before) (c .before .before .before .before .before .before .before .before .before .before .before .before .before .before .before .before .pre), c .before .before .before .before .before .before .before .before .if1 .left)
+array-write-worked-2 : tie.Need-array-write-worked-2 Inv-loop μ-loop
+array-write-worked-2 c = omega (arith, woken (c .before .before .before .before .before .before .before .before .before .before .before .before) (c .before .before .before .before .before .before .before .before .before .before .before .before .before .before .before .before .before .before .before .pre), c .before .before .before .before .before .before .before .before .before .before .before .if1 .left)
 
-add-t-2 : tie.Need-add-t-2 Inv-loop μ-loop
-add-t-2 c = omega (arith, woken (c .before .before .before .before .before .before .before .before .before) (c .before .before .before .before .before .before .before .before .before .before .before .before .before .before .before .before .pre), c .before .before .before .before .before .before .before .before .before .before .before .loop-test .taken)
-
-loop-less-2 : tie.Need-loop-less-2 Inv-loop μ-loop
-loop-less-2 c = omega (arith, woken (c .before .before .before .before .before .before .before .before .before) (c .before .before .before .before .before .before .before .before .before .before .before .before .before .before .before .before .pre), c .before .before .before .before .before .before .before .before .before .before .before .loop-test .taken, c .before .before .before .before .before .before .before .before .before .before .before .before .loop .inv (c .before .before .before .before .before .before .before .before .before .before .before .before .before .before .before .before .pre))
-
-loop-again-2 : tie.Need-loop-again-2 Inv-loop μ-loop
-loop-again-2 c = λ e.
-    let a = c .before .before .before .before .before .before .before .before .before .next-awake .result * c .before .before .before .before .before .before .before .before .before .before .before .before .before .before .before .before .args .h in
-    let turn = c .before .before .before .before .before .ask in
-    going-plays (woken (c .before .before .before .before .before .before .before .before .before) e) (c .before .before .before .before .before .before .before .before .if1 .left) (c .before .before .before .before .before .before .before .before .before .before .before .loop-test .taken) (a + c .before .before .before .before .before .before .before .before .before .before .before .before .before .before .before .before .args .h - a) (omega arith) (turn .result) (turn .last .1 .1 .0) (turn .ensures .0)
-    (turn .ensures .1 .0) (turn .ensures .1 .1 .0) (turn .ensures .1 .1 .1) (turn .kept .1 .1 .0) (c .if2 .taken)
-
-add-i : tie.Need-add-i Inv-loop μ-loop
-add-i c = omega (arith, woken (c .before .before .before .before .before .before .before .before .before) (c .before .before .before .before .before .before .before .before .before .before .before .before .before .before .before .before .pre), c .before .before .before .before .before .before .before .before .if1 .left)
+add-t-3 : tie.Need-add-t-3 Inv-loop μ-loop
+add-t-3 c = omega (arith, woken (c .before .before .before .before .before .before .before .before .before .before .before .before) (c .before .before .before .before .before .before .before .before .before .before .before .before .before .before .before .before .before .before .before .pre), c .before .before .before .before .before .before .before .before .before .before .before .before .before .before .loop-test .taken)
 
 loop-less-3 : tie.Need-loop-less-3 Inv-loop μ-loop
-loop-less-3 c = omega (arith, woken (c .before .before .before .before .before .before .before .before .before) (c .before .before .before .before .before .before .before .before .before .before .before .before .before .before .before .before .pre), c .before .before .before .before .before .before .before .before .if1 .left, c .before .before .before .before .before .before .before .before .before .next-awake .ensures)
+loop-less-3 c = omega (arith, woken (c .before .before .before .before .before .before .before .before .before .before .before .before) (c .before .before .before .before .before .before .before .before .before .before .before .before .before .before .before .before .before .before .before .pre), c .before .before .before .before .before .before .before .before .before .before .before .before .before .before .loop-test .taken, c .before .before .before .before .before .before .before .before .before .before .before .before .before .before .before .loop .inv .1 (c .before .before .before .before .before .before .before .before .before .before .before .before .before .before .before .before .before .before .before .pre))
 
 loop-again-3 : tie.Need-loop-again-3 Inv-loop μ-loop
-loop-again-3 c = λ e.
-    let a = c .before .before .before .before .before .before .before .before .before .next-awake .result * c .before .before .before .before .before .before .before .before .before .before .before .before .before .before .before .before .args .h in
-    let turn = c .before .before .before .before .before .ask in
-    going-passed (woken (c .before .before .before .before .before .before .before .before .before) e) (c .before .before .before .before .before .before .before .before .if1 .left) (c .before .before .before .before .before .before .before .before .before .before .before .loop-test .taken) (a + c .before .before .before .before .before .before .before .before .before .before .before .before .before .before .before .before .args .h - a) (omega arith) (turn .result) (turn .last .1 .1 .0) (turn .ensures .0)
-    (turn .ensures .1 .0) (turn .ensures .1 .1 .0) (turn .ensures .1 .1 .1) (turn .kept .1 .1 .0) (c .if2 .left)
+loop-again-3 c = (
+  λ j l. omega arith,
+  λ e.
+      let a = c .before .before .before .before .before .before .before .before .before .before .before .before .next-awake .result * c .before .before .before .before .before .before .before .before .before .before .before .before .before .before .before .before .before .before .before .args .h in
+      let turn = c .before .before .before .before .before .ask in
+      going-plays (woken (c .before .before .before .before .before .before .before .before .before .before .before .before) e) (c .before .before .before .before .before .before .before .before .before .before .before .if1 .left) (c .before .before .before .before .before .before .before .before .before .before .before .before .before .before .loop-test .taken) (a + c .before .before .before .before .before .before .before .before .before .before .before .before .before .before .before .before .before .before .before .args .h - a) (omega arith) (turn .result) (turn .last .1 .1 .0) (turn .ensures .0)
+      (turn .ensures .1 .0) (turn .ensures .1 .1 .0) (turn .ensures .1 .1 .1) (turn .kept .1 .1 .0) (c .if3 .taken),
+)
+
+add-i : tie.Need-add-i Inv-loop μ-loop
+add-i c = omega (arith, woken (c .before .before .before .before .before .before .before .before .before .before .before .before) (c .before .before .before .before .before .before .before .before .before .before .before .before .before .before .before .before .before .before .before .pre), c .before .before .before .before .before .before .before .before .before .before .before .if1 .left)
+
+loop-less-4 : tie.Need-loop-less-4 Inv-loop μ-loop
+loop-less-4 c = omega (arith, woken (c .before .before .before .before .before .before .before .before .before .before .before .before) (c .before .before .before .before .before .before .before .before .before .before .before .before .before .before .before .before .before .before .before .pre), c .before .before .before .before .before .before .before .before .before .before .before .if1 .left, c .before .before .before .before .before .before .before .before .before .before .before .before .next-awake .ensures)
+
+loop-again-4 : tie.Need-loop-again-4 Inv-loop μ-loop
+loop-again-4 c = (
+  λ j l. omega arith,
+  λ e.
+      let a = c .before .before .before .before .before .before .before .before .before .before .before .before .next-awake .result * c .before .before .before .before .before .before .before .before .before .before .before .before .before .before .before .before .before .before .before .args .h in
+      let turn = c .before .before .before .before .before .ask in
+      going-passed (woken (c .before .before .before .before .before .before .before .before .before .before .before .before) e) (c .before .before .before .before .before .before .before .before .before .before .before .if1 .left) (c .before .before .before .before .before .before .before .before .before .before .before .before .before .before .loop-test .taken) (a + c .before .before .before .before .before .before .before .before .before .before .before .before .before .before .before .before .before .before .before .args .h - a) (omega arith) (turn .result) (turn .last .1 .1 .0) (turn .ensures .0)
+      (turn .ensures .1 .0) (turn .ensures .1 .1 .0) (turn .ensures .1 .1 .1) (turn .kept .1 .1 .0) (c .if3 .left),
+)
 
 after-requires : tie.Need-after-requires Inv-loop μ-loop
 after-requires c κs = search needs
 
 same-length : tie.Need-same-length Inv-loop μ-loop
-same-length c = (c .before .before .loop .inv (c .before .before .before .before .before .before .pre)) .wall-length
+same-length c = (c .before .before .loop .inv .1 (c .before .before .before .before .before .before .pre)) .wall-length
 
 same-length-2 : tie.Need-same-length-2 Inv-loop μ-loop
-same-length-2 c = (c .before .before .loop .inv (c .before .before .before .before .before .before .pre)) .own-length
+same-length-2 c = (c .before .before .loop .inv .1 (c .before .before .before .before .before .before .pre)) .own-length
 
 returns : tie.Need-returns Inv-loop μ-loop
 returns c = λ e.
     let start = c .before .before .before .before .before .before .args in
     let l = c .before .before .loop in
-    let g = l .inv e in
+    let g = l .inv .1 e in
     let done : l .t ≡ start .h = omega (arith, g) in
     record {
       asked = l .i;
@@ -169,20 +276,26 @@ run-spec =
     μ-loop
     loop-holds
     next-awake-requires
+    sleep-to-requires
     slice-write-wall
     add-idle
     add-t
     loop-less
     loop-again
     mul-a
-    mul-ask
-    array-copy-out-ask
-    add-ask
-    sub-ask
-    part-ask-start
-    part-ask-end
+    mul-goes-on
+    array-copy-out-goes-on
     cast-t28
-    ask-requires
+    goes-on-requires
+    mul-k
+    element-copy-out-k
+    mul-play-on
+    array-copy-out-play-on
+    add-play-on
+    sub-play-on
+    part-play-on-start
+    part-play-on-end
+    play-on-requires
     mul-booths
     array-set-from-booths
     cast-wakes
@@ -197,9 +310,31 @@ run-spec =
     add-t-2
     loop-less-2
     loop-again-2
-    add-i
+    mul-ask
+    array-copy-out-ask
+    add-ask
+    sub-ask
+    part-ask-start
+    part-ask-end
+    cast-t28-2
+    ask-requires
+    mul-booths-2
+    array-set-from-booths-2
+    cast-wakes-2
+    mul-wakes-2
+    array-write-wakes-2
+    cast-wall-2
+    slice-write-wall-3
+    mul-worked-2
+    array-read-worked-2
+    add-worked-2
+    array-write-worked-2
+    add-t-3
     loop-less-3
     loop-again-3
+    add-i
+    loop-less-4
+    loop-again-4
     after-requires
     same-length
     same-length-2

@@ -7,11 +7,12 @@ use native.Mathlib.Omega.{arith}
 use Rattle.rules.specs.BoothTable.{Line}
 use Rattle.rules.specs.Due.{due}
 use Rattle.rules.specs.Moves.{settle, mayWork, work}
-use Rattle.laws.proofs.DueLaws.{due-step, due-at-most}
+use Rattle.laws.proofs.DueLaws.{laws-of-due, due-step, due-at-most}
 use Rattle.booth.specs.declared.Chosen.the-variants.{Task}
 use Rattle.booth.specs.BoothHeld.{shown, settledAnswer, asked}
 use Rattle.booth.proofs.RowWritten.{agree-later}
-use Rattle.booth.proofs.OneTurn.{chosen-first, asked-rests, asked-works, wakes-fits}
+use Rattle.booth.proofs.OneTurn.{chosen-first, asked-rests, asked-works}
+use Rattle.booth.proofs.Working.{opens-from}
 use borrow.Author.Needs.{needs}
 use Rattle.booth.proofs.Booth.ask.Statement.{statement}
 use Rattle.booth.proofs.Booth.ask.Tie as tie
@@ -29,14 +30,7 @@ enum-told : tie.Need-enum-told
 enum-told c = search needs
 
 wakes-requires : tie.Need-wakes-requires
-wakes-requires c κs =
-    let start = c .before .before .before .before .before .before .before .before .before in
-    let s = c .before .before .before .before .before .settle in
-    let p = start .args .self .promise in
-    let grows = due-step p (start .pre .1 .steady .sound) (start .args .t .0) in (
-      s .ensures .0 .fit .steady,
-      rw (s .ensures .0 .stays .promise) (wakes-fits p (s .result .clock .0) (start .args .t .0) (start .pre .1 .steady .sound) (start .pre .1 .steady .short) (omega arith) (omega (arith, s .ensures .0 .cap, grows))),
-    )
+wakes-requires c κs = c .before .before .before .before .before .settle .ensures .0 .fit .steady
 
 same-length : tie.Need-same-length
 same-length c = search needs
@@ -76,20 +70,12 @@ play-requires c κs =
     let told = sym (c .before .before .before .before .choose .ensures l (start .args .log .now) (s .last .1 .1 .0) refl) ∙ c .before .before .k .given .1 in
     let first = chosen-first l (start .args .log .now) t (s .result) (s .last .1 .1 .0) (c .before .before .k .given .0 .0) (s .ensures .0 .fit .steady) refl told in
     let most = due-at-most p (start .pre .1 .steady .sound) t in
-    (s .ensures .0 .fit .steady, first .0, first .1, omega (arith, s .ensures .0 .cap, most, s .kept .1 .1 .0), omega (arith, s .kept .1 .1 .0))
+    let steady = s .ensures .0 .fit .steady in
+    let soon = laws-of-due .playable (s .result .promise) (steady .sound) (s .result .clock .0) t .0 (first .2) in
+    (steady, first .0, first .1, omega (arith, s .ensures .0 .cap, most, s .kept .1 .1 .0), omega (arith, s .kept .1 .1 .0), omega (arith, soon, opens-from (s .result) steady))
 
 wakes-requires-2 : tie.Need-wakes-requires-2
-wakes-requires-2 c κs =
-    let start = c .before .before .before .before .before .before .before .before .before .before .before .before .before .before in
-    let t = start .args .t .0 in
-    let s = c .before .before .before .before .before .before .before .before .before .before .settle in
-    let l : Line = record { promise = s .result .promise; longest = [] } in
-    let told = sym (c .before .before .before .before .before .before .before .choose .ensures l (start .args .log .now) (s .last .1 .1 .0) refl) ∙ c .before .before .before .before .before .k .given .1 in
-    let first = chosen-first l (start .args .log .now) t (s .result) (s .last .1 .1 .0) (c .before .before .before .before .before .k .given .0 .0) (s .ensures .0 .fit .steady) refl told in
-    let after = c .before .before .play .ensures .0 in (
-      after .steady,
-      rw (after .stays .promise) (wakes-fits (s .result .promise) (c .before .before .play .result .clock .0) t (s .ensures .0 .fit .steady .sound) (s .ensures .0 .fit .steady .short) (omega arith) (omega (arith, first .2, after .clock))),
-    )
+wakes-requires-2 c κs = c .before .before .play .ensures .0 .steady
 
 same-length-2 : tie.Need-same-length-2
 same-length-2 c = search needs

@@ -9,7 +9,7 @@ use Rattle.rules.specs.Due.{due}
 use Rattle.booth.specs.declared.Booth.{Booth}
 use Rattle.booth.specs.BoothHeld.{shown, clockAt, Fit}
 use Rattle.booth.proofs.Taking.{fit-moved}
-use Rattle.booth.proofs.Settling.{Settling, settles-first, settles-on, due-fits, settled-busy, settled-free, takes-inside, point-due, behind-moved}
+use Rattle.booth.proofs.Settling.{near, Settling, settles-first, settles-on, due-fits, settled-busy, settled-free, takes-inside, point-due, behind-moved}
 use Rattle.booth.proofs.Booth.catch_up.Statement.{statement}
 use Rattle.booth.proofs.Booth.catch_up.Tie as tie
 use Rattle.booth.proofs.Booth.catch_up.Reads as reads
@@ -42,7 +42,8 @@ take-next-requires c κs =
     let fits = due-fits bs t (start .args .self) (start .args .row .now) h row s (start .pre .3) in
     let test = sym (c .before .before .takes .ensures) ∙ c .before .if1 .taken in
     let more = takes-inside bs h row t (s .fit) (start .pre .2) test in
-    ((start .pre .0, s .fit, more), (fits .0, omega (arith, fits .1, point-due bs h row t (s .fit) more test)))
+    let due-by = point-due bs h row t (s .fit) more test in
+    ((start .pre .0, s .fit, more), (fits .0, omega (arith, fits .1, due-by), near (h .promise) (h .point .0) t (s .fit .steady .sound) (s .fit .steady .short) (start .pre .2) due-by))
 
 loop-less : tie.Need-loop-less Inv-loop μ-loop
 loop-less c =
@@ -84,7 +85,8 @@ pass-requires c κs =
     let s = c .before .before .before .before .before .before .before .loop .inv in
     let fits = due-fits bs t (start .args .self) (start .args .row .now) h row s (start .pre .3) in
     let test = sym (c .before .before .before .before .before .before .takes .ensures) ∙ c .before .before .before .before .before .if1 .left in
-    (fits .0, omega (arith, fits .1, c .before .due .ensures))
+    let steady = s .fit .steady in
+    ((fits .0, omega (arith, fits .1, c .before .due .ensures)), (steady .sound .allowance, steady .opens, near (h .promise) (c .before .due .result .0) t (steady .sound) (steady .short) (start .pre .2) (omega (arith, c .before .due .ensures))))
 
 same-length : tie.Need-same-length Inv-loop μ-loop
 same-length c = c .before .before .pass .kept .1 .0 ∙ c .before .before .before .before .before .before .before .before .before .before .loop .inv .long

@@ -7,8 +7,8 @@ use Rattle.rules.specs.InRange.{Sound}
 use Rattle.arrivals.proofs.PlaceLaws.{whole-entry}
 use Rattle.booth.specs.declared.Booth.{Booth}
 use Rattle.rules.specs.Moves.{firstTask}
-use Rattle.booth.specs.BoothHeld.{shown, Looked, lookingAt, demanding, clockAt}
-use Rattle.booth.proofs.Taking.{entryOf, added, own-task, shown-taken, fit-taken}
+use Rattle.booth.specs.BoothHeld.{owed, shown, Looked, lookingAt, demanding, clockAt}
+use Rattle.booth.proofs.Taking.{entryOf, added, own-task, owed-moved, shown-taken, fit-taken}
 use borrow.Author.Needs.{needs}
 use Rattle.booth.proofs.Booth.take_next.Statement.{statement}
 use Rattle.booth.proofs.Booth.take_next.Tie as tie
@@ -20,7 +20,10 @@ entry-demand-requires : tie.Need-entry-demand-requires
 entry-demand-requires c κs = (whole-entry (c .before .before .before .args .log .now) (c .before .before .before .args .self .at) (c .before .before .before .pre .0 .1 .waits .place) (c .before .before .before .pre .0 .2)) .0
 
 pass-requires : tie.Need-pass-requires
-pass-requires c κs = search needs
+pass-requires c κs =
+    let start = c .before .before .before .before .before .before in
+    let s = start .pre .0 .1 .steady in
+    ((start .pre .1 .0, start .pre .1 .1), (s .sound .allowance, s .opens, start .pre .1 .2))
 
 add-requires : tie.Need-add-requires
 unfolding clockAt
@@ -33,11 +36,11 @@ add-requires c κs =
     let moved = c .before .before .pass .ensures .0 in
     let k = c .before .before .before .before .before .before .entry-task .ensures in
     let d = c .before .before .before .before .before .entry-demand .ensures in
-    let ds : c .before .before .pass .result .demand ≡ h .demand = ap (λ (x : Booth). x .demand) moved in (
+    let ds : owed (c .before .before .pass .result) ≡ owed h = ap owed moved ∙ owed-moved h (h .clock .0 + (h .point .0 - h .clock .0)) in (
       omega (arith, k, own-task bs h fit more, fit .steady .tasks),
       omega (arith, d .0, start .pre .0 .0 .demands (h .at) (fit .waits .place) more),
-      ap length ds ∙ fit .steady .eight,
-      rw ds (omega (arith, d .1, fit .room (c .before .before .before .before .before .before .entry-task .result))),
+      ap (λ (x : Booth). length (x .demand)) moved ∙ fit .steady .eight,
+      omega (arith, d .1, fit .room (c .before .before .before .before .before .before .entry-task .result), ap (λ xs. getD xs (c .before .before .before .before .before .before .entry-task .result) 0) ds),
       ap (λ (x : Booth). x .first) moved ∙ fit .steady .first ∙ ap (firstTask 0) (sym ds),
     )
 
@@ -72,9 +75,10 @@ returns c =
     let e = entryOf bs h in
     let is : c .before .add .result ≡ added bs h =
     c .before .add .ensures
-    ∙ ap (λ (x : Booth). demanding x (set (x .demand) (k .result) (getD (x .demand) (k .result) 0 + d .result))) (pass .ensures .0)
-    ∙ ap (λ (n : ℕ). demanding (clockAt h (h .clock .0 + (h .point .0 - h .clock .0))) (set (h .demand) n (getD (h .demand) n 0 + d .result))) (k .ensures)
-    ∙ ap (λ (n : ℕ). demanding (clockAt h (h .clock .0 + (h .point .0 - h .clock .0))) (set (h .demand) (e .task) (getD (h .demand) (e .task) 0 + n))) (d .ensures .0) in
+    ∙ ap (λ (x : Booth). demanding x (set (owed x) (k .result) (getD (owed x) (k .result) 0 + d .result))) (pass .ensures .0)
+    ∙ ap (λ ds. demanding (clockAt h (h .clock .0 + (h .point .0 - h .clock .0))) (set ds (k .result) (getD ds (k .result) 0 + d .result))) (owed-moved h (h .clock .0 + (h .point .0 - h .clock .0)))
+    ∙ ap (λ (n : ℕ). demanding (clockAt h (h .clock .0 + (h .point .0 - h .clock .0))) (set (owed h) n (getD (owed h) n 0 + d .result))) (k .ensures)
+    ∙ ap (λ (n : ℕ). demanding (clockAt h (h .clock .0 + (h .point .0 - h .clock .0))) (set (owed h) (e .task) (getD (owed h) (e .task) 0 + n))) (d .ensures .0) in
     let looked : Looked bs (added bs h) (h .at + 9) (c .look .result) = subst (λ (x : Booth). Looked bs x (h .at + 9) (c .look .result)) is (c .look .ensures) in (
       (
         fit-taken bs h fit more (start .args .row .now) (start .pre .1 .0) (c .look .result) looked (omega (arith, d .ensures)),

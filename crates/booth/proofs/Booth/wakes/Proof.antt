@@ -2,6 +2,7 @@
 use mathlib.Core.Path.{_≡_}
 use borrow.Author.Tests.{eq-eqb, ne-eqb}
 use Rattle.booth.specs.BoothHeld.{wakesAt}
+use Rattle.booth.proofs.Working.{opens-from}
 use borrow.Author.Needs.{needs}
 use Rattle.booth.proofs.Booth.wakes.Statement.{statement}
 use Rattle.booth.proofs.Booth.wakes.Tie as tie
@@ -10,12 +11,9 @@ returns : tie.Need-returns
 unfolding wakesAt
 returns c = rw (eq-eqb _ _ (c .before .if1 .taken), wakesAt)
 
-playable-from-requires : tie.Need-playable-from-requires
-playable-from-requires c κs = search needs
-
 returns-2 : tie.Need-returns-2
 unfolding wakesAt
-returns-2 c = rw (ne-eqb _ _ (c .before .before .if1 .left), wakesAt) (c .playable-from .ensures)
+returns-2 c = rw (ne-eqb _ _ (c .before .if1 .left), wakesAt) (opens-from (c .before .before .before .args .self) (c .before .before .before .pre))
 
 pub wakes-spec : {M : Type 1} → statement M
-wakes-spec = tie.close (tie.spec returns playable-from-requires returns-2)
+wakes-spec = tie.close (tie.spec returns returns-2)
