@@ -372,7 +372,8 @@ impl Booth {
         if self.first == NO_TASK {
             return self.tick;
         }
-        self.opens.from
+        let opens = self.opens;
+        opens.from
     }
 
     // One booth's turn at wall tick t: it settles and, if it then has a task and may work, plays.

@@ -125,24 +125,26 @@ pub fn run(
         }
         soonest = 0;
         let a = i * h;
-        if booths[i].goes_on(WallTick(t as u32)) {
+        let tick = WallTick(t as u32);
+        let number = i as u8;
+        if booths[i].goes_on(tick) {
             let k = booths[i].first;
-            let booth = booths[i].play_on(&mut own[a..a + h], k);
-            booths[i] = booth;
-            wakes[i] = booth.opens.from.0 as usize;
-            wall[t] = i as u8;
+            let played = booths[i].play_on(&mut own[a..a + h], k);
+            booths[i] = played;
+            wakes[i] = played.opens.from.0 as usize;
+            wall[t] = number;
             worked[i] += 1;
             t += 1;
             i = 0;
             continue;
         }
-        let asked = booths[i].ask(log, &mut own[a..a + h], WallTick(t as u32));
+        let asked = booths[i].ask(log, &mut own[a..a + h], tick);
         let booth = asked.booth;
         booths[i] = booth;
         wakes[i] = asked.wakes.0 as usize;
         if asked.worked {
-            wall[t] = i as u8;
-            worked[i] += 1;
+            wall[t] = number;
+            worked[i] = worked[i] + 1;
             t += 1;
             i = 0;
             continue;

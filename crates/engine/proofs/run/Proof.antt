@@ -60,14 +60,17 @@ loop-again c = (c .sleep-to .ensures, λ e. going-nobody (woken (c .before .befo
 mul-a : tie.Need-mul-a Inv-loop μ-loop
 mul-a c = omega (arith, woken (c .before) (c .before .before .before .before .before .before .before .before .pre), inside (c .before) (c .if1 .left))
 
+cast-t25 : tie.Need-cast-t25 Inv-loop μ-loop
+cast-t25 c = omega (arith, woken (c .before) (c .before .before .before .before .before .before .before .before .pre), c .before .before .before .loop-test .taken)
+
+cast-number : tie.Need-cast-number Inv-loop μ-loop
+cast-number c = omega (arith, woken (c .before) (c .before .before .before .before .before .before .before .before .pre), c .if1 .left)
+
 mul-goes-on : tie.Need-mul-goes-on Inv-loop μ-loop
 mul-goes-on c = omega (arith, woken (c .before) (c .before .before .before .before .before .before .before .before .pre), c .if1 .left)
 
 array-copy-out-goes-on : tie.Need-array-copy-out-goes-on Inv-loop μ-loop
 array-copy-out-goes-on c = omega (arith, woken (c .before) (c .before .before .before .before .before .before .before .before .pre), c .if1 .left)
-
-cast-t28 : tie.Need-cast-t28 Inv-loop μ-loop
-cast-t28 c = omega (arith, woken (c .before .before) (c .before .before .before .before .before .before .before .before .before .pre), c .before .before .before .before .loop-test .taken)
 
 goes-on-requires : tie.Need-goes-on-requires Inv-loop μ-loop
 goes-on-requires c κs = search needs
@@ -121,9 +124,6 @@ mul-wakes c = omega (arith, woken (c .before .before .before .before .before .be
 array-write-wakes : tie.Need-array-write-wakes Inv-loop μ-loop
 array-write-wakes c = omega (arith, woken (c .before .before .before .before .before .before .before .before .before .before) (c .before .before .before .before .before .before .before .before .before .before .before .before .before .before .before .before .before .pre), c .before .before .before .before .before .before .before .before .before .if1 .left)
 
-cast-wall : tie.Need-cast-wall Inv-loop μ-loop
-cast-wall c = omega (arith, woken (c .before .before .before .before .before .before .before .before .before .before) (c .before .before .before .before .before .before .before .before .before .before .before .before .before .before .before .before .before .pre), c .before .before .before .before .before .before .before .before .before .if1 .left)
-
 slice-write-wall-2 : tie.Need-slice-write-wall-2 Inv-loop μ-loop
 slice-write-wall-2 c = omega (arith, woken (c .before .before .before .before .before .before .before .before .before .before) (c .before .before .before .before .before .before .before .before .before .before .before .before .before .before .before .before .before .pre), c .before .before .before .before .before .before .before .before .before .before .before .before .loop-test .taken)
 
@@ -172,9 +172,6 @@ part-ask-start c = search needs
 part-ask-end : tie.Need-part-ask-end Inv-loop μ-loop
 part-ask-end c = omega (arith, inside (c .before .before .before .before .before) (c .before .before .before .before .if1 .left))
 
-cast-t28-2 : tie.Need-cast-t28-2 Inv-loop μ-loop
-cast-t28-2 c = omega (arith, woken (c .before .before .before .before .before .before) (c .before .before .before .before .before .before .before .before .before .before .before .before .before .pre), c .before .before .before .before .before .before .before .before .loop-test .taken)
-
 ask-requires : tie.Need-ask-requires Inv-loop μ-loop
 ask-requires c κs =
     let a = c .before .before .before .before .before .before .next-awake .result * c .before .before .before .before .before .before .before .before .before .before .before .before .before .args .h in
@@ -195,9 +192,6 @@ mul-wakes-2 c = omega (arith, woken (c .before .before .before .before .before .
 array-write-wakes-2 : tie.Need-array-write-wakes-2 Inv-loop μ-loop
 array-write-wakes-2 c = omega (arith, woken (c .before .before .before .before .before .before .before .before .before .before .before) (c .before .before .before .before .before .before .before .before .before .before .before .before .before .before .before .before .before .before .pre), c .before .before .before .before .before .before .before .before .before .before .if1 .left)
 
-cast-wall-2 : tie.Need-cast-wall-2 Inv-loop μ-loop
-cast-wall-2 c = omega (arith, woken (c .before .before .before .before .before .before .before .before .before .before .before .before) (c .before .before .before .before .before .before .before .before .before .before .before .before .before .before .before .before .before .before .before .pre), c .before .before .before .before .before .before .before .before .before .before .before .if1 .left)
-
 slice-write-wall-3 : tie.Need-slice-write-wall-3 Inv-loop μ-loop
 slice-write-wall-3 c = omega (arith, woken (c .before .before .before .before .before .before .before .before .before .before .before .before) (c .before .before .before .before .before .before .before .before .before .before .before .before .before .before .before .before .before .before .before .pre), c .before .before .before .before .before .before .before .before .before .before .before .before .before .before .loop-test .taken)
 
@@ -209,6 +203,9 @@ array-read-worked-2 c = omega (arith, woken (c .before .before .before .before .
 
 add-worked-2 : tie.Need-add-worked-2 Inv-loop μ-loop
 add-worked-2 c = record { fits = worked-fits (woken (c .before .before .before .before .before .before .before .before .before .before .before .before) (c .before .before .before .before .before .before .before .before .before .before .before .before .before .before .before .before .before .before .before .pre)) (c .before .before .before .before .before .before .before .before .before .before .before .if1 .left) }
+
+mul-worked-3 : tie.Need-mul-worked-3 Inv-loop μ-loop
+mul-worked-3 c = omega (arith, woken (c .before .before .before .before .before .before .before .before .before .before .before .before) (c .before .before .before .before .before .before .before .before .before .before .before .before .before .before .before .before .before .before .before .pre), c .before .before .before .before .before .before .before .before .before .before .before .if1 .left)
 
 array-write-worked-2 : tie.Need-array-write-worked-2 Inv-loop μ-loop
 array-write-worked-2 c = omega (arith, woken (c .before .before .before .before .before .before .before .before .before .before .before .before) (c .before .before .before .before .before .before .before .before .before .before .before .before .before .before .before .before .before .before .before .pre), c .before .before .before .before .before .before .before .before .before .before .before .if1 .left)
@@ -283,9 +280,10 @@ run-spec =
     loop-less
     loop-again
     mul-a
+    cast-t25
+    cast-number
     mul-goes-on
     array-copy-out-goes-on
-    cast-t28
     goes-on-requires
     mul-k
     element-copy-out-k
@@ -301,7 +299,6 @@ run-spec =
     cast-wakes
     mul-wakes
     array-write-wakes
-    cast-wall
     slice-write-wall-2
     mul-worked
     array-read-worked
@@ -316,18 +313,17 @@ run-spec =
     sub-ask
     part-ask-start
     part-ask-end
-    cast-t28-2
     ask-requires
     mul-booths-2
     array-set-from-booths-2
     cast-wakes-2
     mul-wakes-2
     array-write-wakes-2
-    cast-wall-2
     slice-write-wall-3
     mul-worked-2
     array-read-worked-2
     add-worked-2
+    mul-worked-3
     array-write-worked-2
     add-t-3
     loop-less-3

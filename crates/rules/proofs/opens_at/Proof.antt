@@ -13,8 +13,8 @@ use Rattle.rules.proofs.playable_from.Reads as playable-from-reads
 playable-from-requires : tie.Need-playable-from-requires
 playable-from-requires c κs = search needs
 
-rem-into : tie.Need-rem-into
-rem-into c = search needs
+rem-before : tie.Need-rem-before
+rem-before c = search needs
 
 returns : tie.Need-returns
 unfolding opensAt
@@ -23,4 +23,4 @@ returns c =
     ap (λ n. record { from = record { 0 = n }; into = start .args .u .0 % start .args .promise .allowance }) (c .before .before .playable-from .ensures)
 
 pub opens-at-spec : {M : Type 1} → statement M
-opens-at-spec = tie.close (tie.spec playable-from-requires rem-into returns)
+opens-at-spec = tie.close (tie.spec playable-from-requires rem-before returns)

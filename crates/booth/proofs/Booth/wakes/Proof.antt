@@ -13,7 +13,7 @@ returns c = rw (eq-eqb _ _ (c .before .if1 .taken), wakesAt)
 
 returns-2 : tie.Need-returns-2
 unfolding wakesAt
-returns-2 c = rw (ne-eqb _ _ (c .before .if1 .left), wakesAt) (opens-from (c .before .before .before .args .self) (c .before .before .before .pre))
+returns-2 c = rw (ne-eqb _ _ (c .before .before .if1 .left), wakesAt) (opens-from (c .before .before .before .before .args .self) (c .before .before .before .before .pre))
 
 pub wakes-spec : {M : Type 1} → statement M
 wakes-spec = tie.close (tie.spec returns returns-2)
