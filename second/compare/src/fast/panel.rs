@@ -4,7 +4,7 @@ use std::cmp::Ordering;
 
 use super::admitted_table;
 use super::arrivals::MOST_WALL_TICKS;
-use super::table::Line;
+use super::table::Promise;
 use crate::answers::{PanelRow, Verdict, AT_CEILING, BELOW, NONE_YET, OVER};
 
 /// The panel row of a booth after `t` ticks of a wall record.
@@ -21,11 +21,11 @@ pub fn panel(table: &[u8], wall: &[u8], booth: usize, t: usize) -> PanelRow {
     }
     let number = booth as u8;
     let stood = wall[..t].iter().filter(|&&byte| byte == number);
-    panel_row(&table.lines[booth], stood.count() as u32, t as u32)
+    panel_row(&table.promises[booth], stood.count() as u32, t as u32)
 }
 
-fn panel_row(line: &Line, worked: u32, t: u32) -> PanelRow {
-    let reading = match worked.cmp(&line.due(t)) {
+fn panel_row(promise: &Promise, worked: u32, t: u32) -> PanelRow {
+    let reading = match worked.cmp(&promise.due(t)) {
         _ if t == 0 => NONE_YET,
         Ordering::Less => BELOW,
         Ordering::Equal => AT_CEILING,
@@ -33,7 +33,7 @@ fn panel_row(line: &Line, worked: u32, t: u32) -> PanelRow {
     };
     PanelRow {
         verdict: Verdict::ACCEPTED,
-        promised: f64::from(line.allowance) / f64::from(line.period),
+        promised: f64::from(promise.allowance) / f64::from(promise.period),
         got: if t == 0 {
             0.0
         } else {
