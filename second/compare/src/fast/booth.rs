@@ -7,12 +7,14 @@ use super::waiting::{Arrival, NEVER};
 /// Stands in a row for an own tick passed over, in the wall record for idle.
 pub const NOBODY: u8 = 255;
 
+/// On lines of the cache of its own, and found by a shift.
+#[repr(align(128))]
 pub struct Booth<'a> {
-    /// The own clock.
+    /// The own clock; while the booth plays, as it is after the run.
     pub u: u32,
     /// The first task with demand. It has played since own tick `begun` and plays
     /// up to `turn`, where its demand is used up or an entry is to be added.
-    task: u8,
+    pub task: u8,
     begun: u32,
     turn: u32,
     /// The own tick at which this period's allowance is used up, and the wall tick
@@ -26,11 +28,12 @@ pub struct Booth<'a> {
     /// The first entry not added yet, and those behind it.
     next: Arrival,
     later: std::slice::Iter<'a, Arrival>,
-    row: &'a mut [u8],
+    /// Where the row begins in the own record.
+    pub row: usize,
 }
 
 impl<'a> Booth<'a> {
-    pub fn new(promise: &Promise, own_arrivals: &'a [Arrival], row: &'a mut [u8]) -> Booth<'a> {
+    pub fn new(promise: &Promise, own_arrivals: &'a [Arrival], row: usize) -> Booth<'a> {
         let mut later = own_arrivals.iter();
         Booth {
             u: 0,
@@ -59,11 +62,11 @@ impl<'a> Booth<'a> {
     }
 
     /// Settles at t without demand, and answers the wall tick at which u opens.
-    pub fn settle(&mut self, t: u32) -> u32 {
+    pub fn settle(&mut self, t: u32, own: &mut [u8]) -> u32 {
         if self.next.tick > t {
-            self.pass_over_to(self.promise.due(t));
+            self.pass_over_to(self.promise.due(t), own);
         } else {
-            self.pass_over_to(self.next.release_point);
+            self.pass_over_to(self.next.release_point, own);
             self.add_released();
         }
         let periods = self.u / self.promise.allowance;
@@ -73,15 +76,15 @@ impl<'a> Booth<'a> {
     }
 
     /// Settles after tick H - 1; a booth with demand has its clock already.
-    pub fn settle_at_end(&mut self, h: u32) {
+    pub fn settle_at_end(&mut self, h: u32, own: &mut [u8]) {
         if !self.demand.any() {
-            self.settle(h);
+            self.settle(h, own);
         }
     }
 
     /// Moves u on, writing the own ticks passed over.
-    fn pass_over_to(&mut self, point: u32) {
-        self.row[self.u as usize..point as usize].fill(NOBODY);
+    fn pass_over_to(&mut self, point: u32, own: &mut [u8]) {
+        own[self.row + self.u as usize..self.row + point as usize].fill(NOBODY);
         self.passed_over += point - self.u;
         self.u = point;
     }
@@ -99,11 +102,23 @@ impl<'a> Booth<'a> {
         self.turn = (self.u + left).min(self.next.release_point);
     }
 
-    /// Plays the own tick u.
+    /// How many own ticks the task at hand may play in a row.
     #[inline]
-    pub fn play(&mut self) {
-        self.row[self.u as usize] = self.task;
-        self.u += 1;
+    pub fn run_left(&self) -> u32 {
+        self.turn.min(self.spent) - self.u
+    }
+
+    /// The wall tick at which u opens if the allowance is used up, and otherwise 0.
+    /// Asked once after each run.
+    #[inline]
+    pub fn opens(&mut self) -> u32 {
+        if self.u != self.spent {
+            return 0;
+        }
+        let opens = self.next_period;
+        self.spent += self.promise.allowance;
+        self.next_period += self.promise.period;
+        opens
     }
 
     /// Whether the task at hand has played as far as it may.
@@ -118,18 +133,5 @@ impl<'a> Booth<'a> {
         self.demand.take(self.task, self.u - self.begun);
         self.add_released();
         self.demand.any()
-    }
-
-    /// The wall tick at which u opens, asked once after each own tick played; 0 if
-    /// that was long ago.
-    #[inline]
-    pub fn opens(&mut self) -> u32 {
-        if self.u != self.spent {
-            return 0;
-        }
-        let opens = self.next_period;
-        self.spent += self.promise.allowance;
-        self.next_period += self.promise.period;
-        opens
     }
 }

@@ -1,7 +1,6 @@
 //! The session, tick by tick: a booth is looked at when it may have a task.
 
 use std::array::from_fn;
-use std::mem::take;
 
 use super::accepted_files;
 use super::booth::Booth;
@@ -20,16 +19,16 @@ pub fn session(table: &[u8], log: &[u8], wall: &mut [u8], own: &mut [u8]) -> Ses
         return SessionAnswer::refused(Verdict::UNFIT);
     }
     let waiting = Waiting::new(&table, &log);
-    let mut rows = own;
     let mut booths: [Booth; 8] = from_fn(|number| {
-        let room = if number < table.booths { h } else { 0 };
-        let (row, below) = take(&mut rows).split_at_mut(room);
-        rows = below;
-        Booth::new(&table.promises[number], waiting.of_booth(number), row)
+        Booth::new(
+            &table.promises[number],
+            waiting.of_booth(number),
+            number * h,
+        )
     });
-    Stage::new(&mut booths).play_all(&mut wall[..h]);
+    Stage::new(&mut booths, log.wall_ticks).play_all(&mut wall[..h], own);
     for booth in &mut booths[..table.booths] {
-        booth.settle_at_end(log.wall_ticks);
+        booth.settle_at_end(log.wall_ticks, own);
     }
     let worked = from_fn(|number| booths[number].worked());
     SessionAnswer {

@@ -14,7 +14,7 @@ pub struct Arrival {
 
 /// A tick and a release point that are never reached.
 pub const NEVER: Arrival = Arrival {
-    tick: u32::MAX >> 1,
+    tick: u32::MAX,
     release_point: u32::MAX,
     task: 0,
     demand: 0,
