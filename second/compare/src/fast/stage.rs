@@ -45,11 +45,11 @@ impl<'s, 'a> Stage<'s, 'a> {
     /// Plays every wall tick; within a run only the bytes are written.
     pub fn play_all(mut self, wall: &mut [u8], own: &mut [u8]) {
         let mut run = self.silence();
-        for t in 0..wall.len() {
+        for (t, byte) in wall.iter_mut().enumerate() {
             if run.until <= t as u32 {
                 run = self.next_run(t as u32, own);
             }
-            wall[t] = run.booth;
+            *byte = run.booth;
             if run.booth != NOBODY {
                 own[run.place] = run.task;
                 run.place += 1;
