@@ -8,6 +8,7 @@ mod head;
 mod panel;
 mod session;
 mod solo;
+mod stage;
 mod table;
 mod waiting;
 

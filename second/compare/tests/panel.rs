@@ -1,8 +1,8 @@
 //! Panel rows: the verdict, both shares bit for bit and the reading are those of
 //! the second program, also for records that no session wrote.
 
-use compare::answers::{PanelRow, Verdict, BOOTH_TABLE, CALL};
-use compare::inputs::{audition, damaged_files, lent_record, randoms, Session};
+use compare::answers::{PanelRow, Verdict, BOOTH_TABLE, CALL, NOTHING};
+use compare::inputs::{audition, damaged_files, largest_sessions, lent_record, randoms, Session};
 use compare::judge;
 use compare::players::PLAYERS;
 use compare::tally::Tally;
@@ -122,4 +122,39 @@ fn rows_of_the_longest_record() {
             assert_eq!(refused, t > 1_000_000, "t {t}");
         }
     }
+}
+
+/// Ticks up to 1,000,000: all the first, those about the multiples of 255 blocks
+/// of 64 bytes, at which a count of bytes may run over, and random ones.
+fn ticks_of_long_records(random: &mut Random) -> Vec<usize> {
+    let mut ticks: Vec<usize> = (0..=1_500).collect();
+    for blocks in 1..=3 {
+        let end = blocks * 255 * 64;
+        ticks.extend(end - 66..=end + 66);
+    }
+    ticks.extend((0..20).map(|_| random.below(1_000_001)));
+    ticks.push(1_000_000);
+    ticks
+}
+
+/// The wall records of the largest sessions, one booth all the time, any bytes.
+#[test]
+fn rows_of_long_records() {
+    let mut tally = Tally::default();
+    let mut random = Random::new(first_seed(81_000_000));
+    for (name, session) in largest_sessions() {
+        let full = vec![7; 1_000_000];
+        let any = lent_record(1_000_000, &mut random);
+        for wall in [wall_record(&session), full, any] {
+            for t in ticks_of_long_records(&mut random) {
+                let shown = compare(&session.files.table, &wall, random.below(8), t);
+                tally.add(name, shown.verdict);
+                let shown = compare(&session.files.table, &wall, 7, t);
+                tally.add(name, shown.verdict);
+            }
+        }
+    }
+    tally.print("panel rows of long records");
+    assert_eq!(tally.times(NOTHING, 0), tally.inputs());
+    assert!(tally.inputs() >= 40_000);
 }

@@ -5,7 +5,8 @@ use std::collections::BTreeMap;
 
 use compare::answers::{first_difference, SessionAnswer, ARRIVAL_LOG, BOOTH_TABLE, CALL, NOTHING};
 use compare::inputs::{
-    damaged_files, largest_sessions, lent_record, long_sessions, randoms, Files, Session,
+    damaged_files, kinds_of_input, largest_sessions, lent_record, long_sessions, randoms, Files,
+    Session,
 };
 use compare::judge;
 use compare::players::PLAYERS;
@@ -124,6 +125,47 @@ fn damaged_sessions() {
         assert!(tally.times(ARRIVAL_LOG, number) >= 10, "log {number}");
     }
     assert!(tally.times(CALL, 11) >= 100 && tally.times(NOTHING, 0) >= 100);
+}
+
+/// The table ends where its N says, or where the input ends.
+fn parted(input: &[u8]) -> Files {
+    let end = match input {
+        [_, n0, n1, ..] => 3 + usize::from(u16::from_be_bytes([*n0, *n1])),
+        _ => input.len(),
+    };
+    let (table, log) = input.split_at(end.min(input.len()));
+    Files {
+        table: table.to_vec(),
+        log: log.to_vec(),
+    }
+}
+
+/// H as the log says it, as far as the desk has room.
+fn room_asked(log: &[u8]) -> usize {
+    match log {
+        [_, _, _, _, _, h0, h1, h2, h3, ..] => {
+            2_000.min(u32::from_be_bytes([*h0, *h1, *h2, *h3]) as usize)
+        }
+        _ => 0,
+    }
+}
+
+/// What the desk is given, played into records with room for eight booths.
+#[test]
+fn sessions_of_the_desk() {
+    let mut tally = Tally::default();
+    let seed = first_seed(80_000_000);
+    let lendable = lent_record(8 * 2_000, &mut Random::new(seed));
+    for kind in kinds_of_input(seed) {
+        for input in kind.inputs {
+            let files = parted(&input);
+            let room = room_asked(&files.log);
+            let answer = compare(kind.name, &files, &lendable[..room], &lendable[..8 * room]);
+            tally.add(kind.name, answer.verdict);
+        }
+    }
+    tally.print("sessions of the desk");
+    assert!(tally.times(NOTHING, 0) >= 50_000 && tally.times(CALL, 11) >= 1_000);
 }
 
 /// Twenty with H of 100,000 and more, each once exactly right and once longer.

@@ -15,24 +15,35 @@ pub struct Log<'a> {
 }
 
 pub struct Entry {
-    pub length: u8,
+    length: u8,
     pub tick: u32,
-    pub booth: usize,
-    pub task: usize,
-    pub demand: u32,
+    /// The booth's byte, then the task's.
+    place: u16,
+    pub demand: u16,
 }
 
 impl Entry {
+    /// One look: behind the length byte stands one number of eight bytes.
     #[inline]
     pub fn read(bytes: &[u8; ENTRY_BYTES]) -> Entry {
-        let [length, t0, t1, t2, t3, booth, task, d0, d1] = *bytes;
+        let [length, value @ ..] = *bytes;
+        let value = u64::from_be_bytes(value);
         Entry {
             length,
-            tick: u32::from_be_bytes([t0, t1, t2, t3]),
-            booth: usize::from(booth),
-            task: usize::from(task),
-            demand: u32::from(u16::from_be_bytes([d0, d1])),
+            tick: (value >> 32) as u32,
+            place: (value >> 16) as u16,
+            demand: value as u16,
         }
+    }
+
+    #[inline]
+    pub fn booth(&self) -> usize {
+        usize::from(self.place >> 8)
+    }
+
+    #[inline]
+    pub fn task(&self) -> u8 {
+        self.place as u8
     }
 }
 
@@ -66,8 +77,10 @@ fn check_entries(
     wall_ticks: u32,
     table: &Table,
 ) -> Result<(), Refusal> {
-    // Laid out once, so that an entry needs one look-up.
-    let longest_jobs = table.lines.map(|line| line.longest_jobs);
+    let longest_jobs = LongestJobs::new(table);
+    if all_sound(entries, wall_ticks, &longest_jobs) {
+        return Ok(());
+    }
     let mut before = 0;
     for (number, bytes) in entries.iter().enumerate() {
         let entry = Entry::read(bytes);
@@ -80,20 +93,58 @@ fn check_entries(
     Ok(())
 }
 
+/// Laid out once, so that an entry finds its longest job by the booth's and the
+/// task's byte as they stand, the bits that no good entry has set left out.
+struct LongestJobs([u16; 8 * 256]);
+
+const PLACE_BITS: u16 = 0x0707;
+
+impl LongestJobs {
+    fn new(table: &Table) -> LongestJobs {
+        let mut jobs = [0; 8 * 256];
+        for (booth, own) in table.longest_jobs.iter().enumerate() {
+            jobs[booth * 256..][..8].copy_from_slice(own);
+        }
+        LongestJobs(jobs)
+    }
+
+    #[inline]
+    fn of(&self, place: u16) -> u16 {
+        self.0[usize::from(place & PLACE_BITS)]
+    }
+}
+
+/// Whether no entry has a fault. All are looked at without a branch: what tells of
+/// a fault is gathered and asked about once.
+fn all_sound(entries: &[[u8; ENTRY_BYTES]], wall_ticks: u32, longest_jobs: &LongestJobs) -> bool {
+    let mut before = 0;
+    let mut lengths = 0;
+    let mut places = 0;
+    let mut below_zero = 0;
+    for bytes in entries {
+        let entry = Entry::read(bytes);
+        lengths |= entry.length ^ 8;
+        places |= entry.place;
+        let longest_job = i64::from(longest_jobs.of(entry.place));
+        let demand = i64::from(entry.demand);
+        below_zero |= (i64::from(entry.tick) - before) | (longest_job - demand) | (demand - 1);
+        before = i64::from(entry.tick);
+    }
+    let in_time = entries.is_empty() || before < i64::from(wall_ticks);
+    lengths == 0 && places & !PLACE_BITS == 0 && below_zero >= 0 && in_time
+}
+
 /// The number of an entry's first fault, or 0.
 #[inline]
-fn fault(entry: &Entry, before: u32, wall_ticks: u32, longest_jobs: &[[u32; 8]; 8]) -> u32 {
+fn fault(entry: &Entry, before: u32, wall_ticks: u32, longest_jobs: &LongestJobs) -> u32 {
     if entry.length != 8 {
         return 5;
     }
     if entry.tick >= wall_ticks || entry.tick < before {
         return 8;
     }
-    if entry.booth >= 8 || entry.task >= 8 {
-        return 9;
-    }
-    let longest_job = longest_jobs[entry.booth][entry.task];
-    if longest_job == 0 {
+    let longest_job = longest_jobs.of(entry.place);
+    if entry.place & !PLACE_BITS != 0 || longest_job == 0 {
         return 9;
     }
     if entry.demand == 0 || entry.demand > longest_job {

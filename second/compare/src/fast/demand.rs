@@ -19,15 +19,19 @@ impl Demand {
         self.asking |= 1 << task;
     }
 
-    /// Plays one tick of the first task with demand, which there is.
+    /// The first task with demand, and how much it has left.
     #[inline]
-    pub fn play_first(&mut self) -> u8 {
+    pub fn first(&self) -> Option<(u8, u32)> {
         let task = self.asking.trailing_zeros();
-        let left = &mut self.left[task as usize & 7];
-        *left -= 1;
-        if *left == 0 {
-            self.asking &= self.asking - 1;
-        }
-        task as u8
+        self.any()
+            .then(|| (task as u8, self.left[task as usize & 7]))
+    }
+
+    /// Takes off what a task has played, which is no more than it had left.
+    #[inline]
+    pub fn take(&mut self, task: u8, played: u32) {
+        let left = &mut self.left[usize::from(task) & 7];
+        *left -= played;
+        self.asking &= !(u32::from(*left == 0) << task);
     }
 }

@@ -4,7 +4,7 @@ use std::cmp::Ordering;
 
 use super::admitted_table;
 use super::arrivals::MOST_WALL_TICKS;
-use super::table::Line;
+use super::table::Promise;
 use crate::answers::{PanelRow, Verdict, AT_CEILING, BELOW, NONE_YET, OVER};
 
 /// The panel row of a booth after `t` ticks of a wall record.
@@ -19,13 +19,36 @@ pub fn panel(table: &[u8], wall: &[u8], booth: usize, t: usize) -> PanelRow {
     if t > wall.len() || t > MOST_WALL_TICKS as usize {
         return PanelRow::refused(Verdict::UNFIT);
     }
-    let number = booth as u8;
-    let stood = wall[..t].iter().filter(|&&byte| byte == number);
-    panel_row(&table.lines[booth], stood.count() as u32, t as u32)
+    let worked = times_in(&wall[..t], booth as u8);
+    panel_row(&table.promises[booth], worked, t as u32)
 }
 
-fn panel_row(line: &Line, worked: u32, t: u32) -> PanelRow {
-    let reading = match worked.cmp(&line.due(t)) {
+/// Bytes counted side by side, so that the compiler fills whole registers.
+const LANES: usize = 64;
+/// A count of one byte holds that many.
+const MOST_IN_LANE: usize = 255;
+
+/// How often the byte stands in the record.
+fn times_in(record: &[u8], byte: u8) -> u32 {
+    let (blocks, rest) = record.as_chunks::<LANES>();
+    let counted = blocks.chunks(MOST_IN_LANE);
+    let in_blocks: u32 = counted.map(|blocks| times_in_blocks(blocks, byte)).sum();
+    in_blocks + rest.iter().map(|&b| u32::from(b == byte)).sum::<u32>()
+}
+
+/// How often the byte stands in at most 255 blocks.
+fn times_in_blocks(blocks: &[[u8; LANES]], byte: u8) -> u32 {
+    let mut counts = [0u8; LANES];
+    for block in blocks {
+        for (count, &b) in counts.iter_mut().zip(block) {
+            *count += u8::from(b == byte);
+        }
+    }
+    counts.iter().map(|&count| u32::from(count)).sum()
+}
+
+fn panel_row(promise: &Promise, worked: u32, t: u32) -> PanelRow {
+    let reading = match worked.cmp(&promise.due(t)) {
         _ if t == 0 => NONE_YET,
         Ordering::Less => BELOW,
         Ordering::Equal => AT_CEILING,
@@ -33,7 +56,7 @@ fn panel_row(line: &Line, worked: u32, t: u32) -> PanelRow {
     };
     PanelRow {
         verdict: Verdict::ACCEPTED,
-        promised: f64::from(line.allowance) / f64::from(line.period),
+        promised: f64::from(promise.allowance) / f64::from(promise.period),
         got: if t == 0 {
             0.0
         } else {

@@ -4,25 +4,37 @@ use super::head::{check_head, refuse, Refusal};
 
 const FIRST_RECORD: usize = 3;
 
+/// What a booth is promised.
 #[derive(Clone, Copy, Default)]
-pub struct Line {
+pub struct Promise {
     pub period: u32,
     pub allowance: u32,
-    /// 0 stands for a task that the booth does not have.
-    pub longest_jobs: [u32; 8],
 }
 
-impl Line {
+impl Promise {
+    #[inline]
     pub fn due(&self, t: u32) -> u32 {
         t / self.period * self.allowance + (t % self.period).min(self.allowance)
     }
+
+    /// What a booth below may lose to this one within R ticks; in the first period
+    /// nothing is divided.
+    #[inline]
+    fn taken_within(&self, r: u32) -> u32 {
+        if r <= self.period {
+            return self.allowance;
+        }
+        self.allowance * r.div_ceil(self.period)
+    }
 }
 
-/// The lines of the booths; behind the last, lines of zeros.
+/// Booth by booth; behind the last, zeros.
 #[derive(Default)]
 pub struct Table {
     pub booths: usize,
-    pub lines: [Line; 8],
+    pub promises: [Promise; 8],
+    /// 0 stands for a task that the booth does not have.
+    pub longest_jobs: [[u16; 8]; 8],
 }
 
 pub fn read_table(bytes: &[u8]) -> Result<Table, Refusal> {
@@ -45,51 +57,47 @@ pub fn read_table(bytes: &[u8]) -> Result<Table, Refusal> {
         let Some(record) = bytes.get(start + 1..start + 1 + length) else {
             return refuse(1, start);
         };
-        let Some(line) = read_line(record) else {
+        let Some(promise) = read_record(record, &mut table.longest_jobs[booth]) else {
             return refuse(6, start);
         };
-        table.lines[booth] = line;
+        table.promises[booth] = promise;
         table.booths += 1;
         starts[booth] = start;
         start += 1 + length;
     }
-    match first_not_admitted(&table.lines[..table.booths]) {
+    match first_not_admitted(&table.promises[..table.booths]) {
         Some(booth) => refuse(7, starts[booth]),
         None => Ok(table),
     }
 }
 
-/// The line in a record of at least six bytes, unless a value is out of range.
-fn read_line(record: &[u8]) -> Option<Line> {
+/// The promise in a record of at least six bytes, and its longest jobs into zeros;
+/// nothing if a value is out of range.
+fn read_record(record: &[u8], longest_jobs: &mut [u16; 8]) -> Option<Promise> {
     let (values, _) = record.as_chunks::<2>();
     let value = |place: usize| u32::from(u16::from_be_bytes(values[place]));
     let (period, allowance) = (value(0), value(1));
-    let mut longest_jobs = [0; 8];
     let mut in_range = period <= 10_000 && 1 <= allowance && allowance <= period;
     for (job, &bytes) in longest_jobs.iter_mut().zip(&values[2..]) {
-        *job = u32::from(u16::from_be_bytes(bytes));
+        *job = u16::from_be_bytes(bytes);
         in_range &= *job > 0;
     }
-    in_range.then_some(Line {
-        period,
-        allowance,
-        longest_jobs,
-    })
+    in_range.then_some(Promise { period, allowance })
 }
 
-fn first_not_admitted(lines: &[Line]) -> Option<usize> {
-    (0..lines.len()).find(|&booth| !passes(&lines[..booth], &lines[booth]))
+fn first_not_admitted(promises: &[Promise]) -> Option<usize> {
+    (0..promises.len()).find(|&booth| !passes(&promises[..booth], &promises[booth]))
 }
 
-/// What is asked within R ticks never falls as R grows, so climbing from the
-/// allowance by what is asked meets the least R that has room, if there is one.
-fn passes(earlier: &[Line], line: &Line) -> bool {
-    let mut r = line.allowance;
-    while r <= line.period {
-        let taken = earlier
-            .iter()
-            .map(|above| above.allowance * r.div_ceil(above.period));
-        let asked = line.allowance + taken.sum::<u32>();
+/// What is asked within R ticks never falls as R grows, so climbing by what is
+/// asked meets the least R that has room, if there is one. It begins where every
+/// booth above has taken its allowance once, for less is never asked.
+fn passes(earlier: &[Promise], own: &Promise) -> bool {
+    let allowances = earlier.iter().map(|above| above.allowance);
+    let mut r = own.allowance + allowances.sum::<u32>();
+    while r <= own.period {
+        let taken = earlier.iter().map(|above| above.taken_within(r));
+        let asked = own.allowance + taken.sum::<u32>();
         if asked <= r {
             return true;
         }

@@ -1,7 +1,7 @@
 //! The entries of each booth, laid out once before the first tick.
 
 use super::arrivals::{Entry, Log, MOST_ENTRIES};
-use super::table::Table;
+use super::table::{Promise, Table};
 
 /// An entry of one booth; its tick is converted here, once.
 #[derive(Clone, Copy)]
@@ -20,6 +20,18 @@ pub const NEVER: Arrival = Arrival {
     demand: 0,
 };
 
+impl Arrival {
+    #[inline]
+    fn new(entry: &Entry, promise: &Promise) -> Arrival {
+        Arrival {
+            tick: entry.tick,
+            release_point: promise.due(entry.tick),
+            task: u32::from(entry.task()),
+            demand: u32::from(entry.demand),
+        }
+    }
+}
+
 /// Booth by booth, each in the log's order. Ticks never fall along the log and
 /// due never falls as ticks grow, so a booth's release points never fall either.
 pub struct Waiting {
@@ -32,7 +44,7 @@ impl Waiting {
     pub fn new(table: &Table, log: &Log) -> Waiting {
         let mut begins = [0; 9];
         for bytes in log.entries {
-            begins[Entry::read(bytes).booth + 1] += 1;
+            begins[Entry::read(bytes).booth() + 1] += 1;
         }
         for booth in 0..8 {
             begins[booth + 1] += begins[booth];
@@ -41,13 +53,8 @@ impl Waiting {
         let mut places = begins;
         for bytes in log.entries {
             let entry = Entry::read(bytes);
-            let place = &mut places[entry.booth];
-            arrivals[*place] = Arrival {
-                tick: entry.tick,
-                release_point: table.lines[entry.booth].due(entry.tick),
-                task: entry.task as u32,
-                demand: entry.demand,
-            };
+            let place = &mut places[entry.booth()];
+            arrivals[*place] = Arrival::new(&entry, &table.promises[entry.booth()]);
             *place += 1;
         }
         Waiting { arrivals, begins }
@@ -56,4 +63,15 @@ impl Waiting {
     pub fn of_booth(&self, booth: usize) -> &[Arrival] {
         &self.arrivals[self.begins[booth]..self.begins[booth + 1]]
     }
+}
+
+/// The entries of one booth alone, each converted as it is asked for.
+pub fn own_arrivals<'a>(
+    log: &Log<'a>,
+    booth: usize,
+    promise: &'a Promise,
+) -> impl Iterator<Item = Arrival> + 'a {
+    let entries = log.entries.iter().map(Entry::read);
+    let own = entries.filter(move |entry| entry.booth() == booth);
+    own.map(|entry| Arrival::new(&entry, promise))
 }
