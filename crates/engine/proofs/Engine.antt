@@ -483,6 +483,11 @@ module _ {ls : List Line} {n H : ℕ} {bs wall₀ own₀ : List ℕ} {t i : ℕ}
 
 -- ---- the booths that sleep are passed over
 
+-- so many idle ticks, counted another way
+pub going-idle : {ls : List Line} {n H : ℕ} {bs wall₀ own₀ : List ℕ} {t i : ℕ} {hs : List HeldBooth} {wakes worked : List ℕ} {idle : ℕ} {wall own : List ℕ}
+    → Going ls n H bs wall₀ own₀ t i hs wakes worked idle wall own → {k : ℕ} → idle ≡ k → Going ls n H bs wall₀ own₀ t i hs wakes worked k wall own
+going-idle {ls} {n} {H} {bs} {wall₀} {own₀} {t} {i} {hs} {wakes} {worked} {idle} {wall} {own} g {k} e = subst (λ m. Going ls n H bs wall₀ own₀ t i hs wakes worked m wall own) e g
+
 -- a booth that goes on plays, and leaves the part with its task written
 module _ {ls : List Line} {n H : ℕ} {bs wall₀ own₀ : List ℕ} {t i : ℕ} {hs : List HeldBooth} {wakes worked : List ℕ} {idle : ℕ} {wall own : List ℕ}
     (g : Going ls n H bs wall₀ own₀ t i hs wakes worked idle wall own) (e : i ≡ n → ⊥) (less : t < H) (w : ℕ) (q : w ≡ H) where

@@ -109,7 +109,7 @@ pub fn run(
     let mut booths = start;
     let mut wakes = [0usize; BOOTHS_ALLOWED];
     let mut worked = [0u32; BOOTHS_ALLOWED];
-    let mut idle: u32 = 0;
+    let mut sung = 0;
     let mut t = 0;
     let mut i = 0;
     let mut soonest = 0;
@@ -118,7 +118,6 @@ pub fn run(
         if i == n {
             soonest = sleep_to(&wakes, n, t, soonest, h);
             wall[t] = NOBODY;
-            idle += 1;
             t += 1;
             i = 0;
             continue;
@@ -134,6 +133,7 @@ pub fn run(
             wakes[i] = played.opens.from.0 as usize;
             wall[t] = number;
             worked[i] += 1;
+            sung += 1;
             t += 1;
             i = 0;
             continue;
@@ -145,12 +145,14 @@ pub fn run(
         if asked.worked {
             wall[t] = number;
             worked[i] = worked[i] + 1;
+            sung += 1;
             t += 1;
             i = 0;
             continue;
         }
         i += 1;
     }
+    let idle = (h - sung) as u32;
     Stage::after(booths, worked, idle)
 }
 

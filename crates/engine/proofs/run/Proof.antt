@@ -7,61 +7,58 @@ use borrow.Author.Needs.{needs}
 use lib.ListN.{length, getD, take, drop, set}
 use Rattle.booth.proofs.OneTurn.{goes-on-asks}
 use Rattle.engine.specs.Running.{nowhere, SleepTo, Running, Ready}
-use Rattle.engine.proofs.Engine.{Going, row-inside, going-first, going-nobody, going-on, turn-asks, going-passed, going-plays, going-on-plays, worked-fits}
+use Rattle.engine.proofs.Engine.{Going, row-inside, going-first, going-nobody, going-on, turn-asks, going-passed, going-plays, going-on-plays, going-idle, worked-fits}
 use Rattle.engine.proofs.run.Statement.{statement}
 use Rattle.engine.proofs.run.Tie as tie
 
--- no booth wakes before `soonest`, and the session is going
+-- no booth wakes before `soonest`, booths have worked in `sung` of the ticks, and the session is going
 abbrev Inv-loop : tie.InvT-loop
-Inv-loop n log wall₀ own₀ h booths₀ wakes₀ worked₀ idle₀ t₀ i₀ soonest₀ wall own booths wakes worked idle t i soonest =
-    SleepTo wakes n soonest × ((e : Ready n h booths₀ log wall₀ own₀) → Going (e .lines) n h log wall₀ own₀ t i booths wakes worked idle wall own)
+Inv-loop n log wall₀ own₀ h booths₀ wakes₀ worked₀ sung₀ t₀ i₀ soonest₀ wall own booths wakes worked sung t i soonest =
+    SleepTo wakes n soonest × (sung ≤ t) × ((e : Ready n h booths₀ log wall₀ own₀) → Going (e .lines) n h log wall₀ own₀ t i booths wakes worked (t - sung) wall own)
 
 abbrev μ-loop : tie.MeasureT-loop
-μ-loop n log wall₀ own₀ h booths₀ wakes₀ worked₀ idle₀ t₀ i₀ soonest₀ wall own booths wakes worked idle t i soonest =
+μ-loop n log wall₀ own₀ h booths₀ wakes₀ worked₀ sung₀ t₀ i₀ soonest₀ wall own booths wakes worked sung t i soonest =
     (h - t) * 9 + (n - i)
 
 loop-holds : tie.Need-loop-holds Inv-loop μ-loop
-loop-holds c = (λ j l. omega arith, λ e. going-first e)
+loop-holds c = (λ j l. omega arith, omega arith, λ e. going-first e)
 
 next-awake-requires : tie.Need-next-awake-requires Inv-loop μ-loop
 next-awake-requires c κs =
-    let g = c .before .before .loop .inv .1 (c .before .before .before .before .before .before .pre) in
+    let g = c .before .before .loop .inv .2 (c .before .before .before .before .before .before .pre) in
     (g .within, g .few, c .before .before .loop .inv .0)
 
 -- what holds once the booths that sleep are passed over
 woken : (c : tie.After-next-awake Inv-loop μ-loop)
     → (e : Ready (c .before .before .before .before .before .before .before .args .n) (c .before .before .before .before .before .before .before .args .h) (c .before .before .before .before .before .before .before .args .start) (c .before .before .before .before .before .before .before .args .log .now) (c .before .before .before .before .before .before .before .args .wall .now) (c .before .before .before .before .before .before .before .args .own .now))
     → Going (e .lines) (c .before .before .before .before .before .before .before .args .n) (c .before .before .before .before .before .before .before .args .h) (c .before .before .before .before .before .before .before .args .log .now) (c .before .before .before .before .before .before .before .args .wall .now) (c .before .before .before .before .before .before .before .args .own .now)
-    (c .before .before .before .loop .t) (c .next-awake .result) (c .before .before .before .loop .booths) (c .before .before .before .loop .wakes) (c .before .before .before .loop .worked) (c .before .before .before .loop .idle) (c .before .before .before .loop .wall) (c .before .before .before .loop .own)
-woken c e = going-on (c .before .before .before .loop .inv .1 e) (c .next-awake .ensures)
+    (c .before .before .before .loop .t) (c .next-awake .result) (c .before .before .before .loop .booths) (c .before .before .before .loop .wakes) (c .before .before .before .loop .worked) (c .before .before .before .loop .t - c .before .before .before .loop .sung) (c .before .before .before .loop .wall) (c .before .before .before .loop .own)
+woken c e = going-on (c .before .before .before .loop .inv .2 e) (c .next-awake .ensures)
 
 -- booth i's part lies inside the own record
 inside : (c : tie.After-next-awake Inv-loop μ-loop) → (c .next-awake .result ≡ c .before .before .before .before .before .before .before .args .n → ⊥) → c .next-awake .result * c .before .before .before .before .before .before .before .args .h + c .before .before .before .before .before .before .before .args .h ≤ length (c .before .before .before .loop .own)
 inside c e = omega (arith, woken c (c .before .before .before .before .before .before .before .pre), row-inside (c .next-awake .result) (c .before .before .before .before .before .before .before .args .n) (c .before .before .before .before .before .before .before .args .h) (omega (arith, woken c (c .before .before .before .before .before .before .before .pre))))
 
 sleep-to-requires : tie.Need-sleep-to-requires Inv-loop μ-loop
-sleep-to-requires c κs = ((c .before .before .before .before .before .loop .inv .1 (c .before .before .before .before .before .before .before .before .before .pre)) .few, c .before .before .before .before .before .loop .inv .0)
+sleep-to-requires c κs = ((c .before .before .before .before .before .loop .inv .2 (c .before .before .before .before .before .before .before .before .before .pre)) .few, c .before .before .before .before .before .loop .inv .0)
 
 slice-write-wall : tie.Need-slice-write-wall Inv-loop μ-loop
 slice-write-wall c = omega (arith, woken (c .before .before .before) (c .before .before .before .before .before .before .before .before .before .before .pre), c .before .before .before .before .before .loop-test .taken)
-
-add-idle : tie.Need-add-idle Inv-loop μ-loop
-add-idle c = record { fits = omega (arith, woken (c .before .before .before) (c .before .before .before .before .before .before .before .before .before .before .pre), c .before .before .before .before .before .loop-test .taken) }
 
 add-t : tie.Need-add-t Inv-loop μ-loop
 add-t c = record { fits = omega (arith, woken (c .before .before .before) (c .before .before .before .before .before .before .before .before .before .before .pre), c .before .before .before .before .before .loop-test .taken) }
 
 loop-less : tie.Need-loop-less Inv-loop μ-loop
-loop-less c = omega (arith, woken (c .before .before .before) (c .before .before .before .before .before .before .before .before .before .before .pre), c .before .before .before .before .before .loop-test .taken, c .before .before .before .before .before .before .loop .inv .1 (c .before .before .before .before .before .before .before .before .before .before .pre))
+loop-less c = omega (arith, woken (c .before .before .before) (c .before .before .before .before .before .before .before .before .before .before .pre), c .before .before .before .before .before .loop-test .taken, c .before .before .before .before .before .before .loop .inv .2 (c .before .before .before .before .before .before .before .before .before .before .pre))
 
 loop-again : tie.Need-loop-again Inv-loop μ-loop
-loop-again c = (c .sleep-to .ensures, λ e. going-nobody (woken (c .before .before .before) e) (c .before .before .if1 .taken) (c .before .before .before .before .before .loop-test .taken))
+loop-again c = (c .sleep-to .ensures, omega (arith, c .before .before .before .before .before .before .loop .inv .1), λ e. going-idle (going-nobody (woken (c .before .before .before) e) (c .before .before .if1 .taken) (c .before .before .before .before .before .loop-test .taken)) (omega (arith, c .before .before .before .before .before .before .loop .inv .1)))
 
 mul-a : tie.Need-mul-a Inv-loop μ-loop
 mul-a c = omega (arith, woken (c .before) (c .before .before .before .before .before .before .before .before .pre), inside (c .before) (c .if1 .left))
 
-cast-t25 : tie.Need-cast-t25 Inv-loop μ-loop
-cast-t25 c = omega (arith, woken (c .before) (c .before .before .before .before .before .before .before .before .pre), c .before .before .before .loop-test .taken)
+cast-t26 : tie.Need-cast-t26 Inv-loop μ-loop
+cast-t26 c = omega (arith, woken (c .before) (c .before .before .before .before .before .before .before .before .pre), c .before .before .before .loop-test .taken)
 
 cast-number : tie.Need-cast-number Inv-loop μ-loop
 cast-number c = omega (arith, woken (c .before) (c .before .before .before .before .before .before .before .before .pre), c .if1 .left)
@@ -139,19 +136,23 @@ add-worked c = record { fits = worked-fits (woken (c .before .before .before .be
 array-write-worked : tie.Need-array-write-worked Inv-loop μ-loop
 array-write-worked c = omega (arith, woken (c .before .before .before .before .before .before .before .before .before .before) (c .before .before .before .before .before .before .before .before .before .before .before .before .before .before .before .before .before .pre), c .before .before .before .before .before .before .before .before .before .if1 .left)
 
+add-sung : tie.Need-add-sung Inv-loop μ-loop
+add-sung c = omega (arith, woken (c .before .before .before .before .before .before .before .before .before .before) (c .before .before .before .before .before .before .before .before .before .before .before .before .before .before .before .before .before .pre), c .before .before .before .before .before .before .before .before .before .before .before .before .loop-test .taken, c .before .before .before .before .before .before .before .before .before .before .before .before .before .loop .inv .1)
+
 add-t-2 : tie.Need-add-t-2 Inv-loop μ-loop
 add-t-2 c = omega (arith, woken (c .before .before .before .before .before .before .before .before .before .before) (c .before .before .before .before .before .before .before .before .before .before .before .before .before .before .before .before .before .pre), c .before .before .before .before .before .before .before .before .before .before .before .before .loop-test .taken)
 
 loop-less-2 : tie.Need-loop-less-2 Inv-loop μ-loop
-loop-less-2 c = omega (arith, woken (c .before .before .before .before .before .before .before .before .before .before) (c .before .before .before .before .before .before .before .before .before .before .before .before .before .before .before .before .before .pre), c .before .before .before .before .before .before .before .before .before .before .before .before .loop-test .taken, c .before .before .before .before .before .before .before .before .before .before .before .before .before .loop .inv .1 (c .before .before .before .before .before .before .before .before .before .before .before .before .before .before .before .before .before .pre))
+loop-less-2 c = omega (arith, woken (c .before .before .before .before .before .before .before .before .before .before) (c .before .before .before .before .before .before .before .before .before .before .before .before .before .before .before .before .before .pre), c .before .before .before .before .before .before .before .before .before .before .before .before .loop-test .taken, c .before .before .before .before .before .before .before .before .before .before .before .before .before .loop .inv .2 (c .before .before .before .before .before .before .before .before .before .before .before .before .before .before .before .before .before .pre))
 
 loop-again-2 : tie.Need-loop-again-2 Inv-loop μ-loop
 loop-again-2 c = (
   λ j l. omega arith,
+  omega (arith, c .before .before .before .before .before .before .before .before .before .before .before .before .before .loop .inv .1),
   λ e.
       let a = c .before .before .before .before .before .before .before .before .before .before .next-awake .result * c .before .before .before .before .before .before .before .before .before .before .before .before .before .before .before .before .before .args .h in
       let plays = c .before .before .before .play-on in
-      going-on-plays (woken (c .before .before .before .before .before .before .before .before .before .before) e) (c .before .before .before .before .before .before .before .before .before .if1 .left) (c .before .before .before .before .before .before .before .before .before .before .before .before .loop-test .taken) (a + c .before .before .before .before .before .before .before .before .before .before .before .before .before .before .before .before .before .args .h - a) (omega arith) (sym (c .before .before .before .before .before .before .before .goes-on .ensures) ∙ c .before .before .before .before .before .before .if2 .taken) (plays .result) (plays .last .1 .0) (plays .ensures .0) (plays .ensures .1),
+      going-idle (going-on-plays (woken (c .before .before .before .before .before .before .before .before .before .before) e) (c .before .before .before .before .before .before .before .before .before .if1 .left) (c .before .before .before .before .before .before .before .before .before .before .before .before .loop-test .taken) (a + c .before .before .before .before .before .before .before .before .before .before .before .before .before .before .before .before .before .args .h - a) (omega arith) (sym (c .before .before .before .before .before .before .before .goes-on .ensures) ∙ c .before .before .before .before .before .before .if2 .taken) (plays .result) (plays .last .1 .0) (plays .ensures .0) (plays .ensures .1)) (omega (arith, c .before .before .before .before .before .before .before .before .before .before .before .before .before .loop .inv .1)),
 )
 
 mul-ask : tie.Need-mul-ask Inv-loop μ-loop
@@ -210,20 +211,24 @@ mul-worked-3 c = omega (arith, woken (c .before .before .before .before .before 
 array-write-worked-2 : tie.Need-array-write-worked-2 Inv-loop μ-loop
 array-write-worked-2 c = omega (arith, woken (c .before .before .before .before .before .before .before .before .before .before .before .before) (c .before .before .before .before .before .before .before .before .before .before .before .before .before .before .before .before .before .before .before .pre), c .before .before .before .before .before .before .before .before .before .before .before .if1 .left)
 
+add-sung-2 : tie.Need-add-sung-2 Inv-loop μ-loop
+add-sung-2 c = omega (arith, woken (c .before .before .before .before .before .before .before .before .before .before .before .before) (c .before .before .before .before .before .before .before .before .before .before .before .before .before .before .before .before .before .before .before .pre), c .before .before .before .before .before .before .before .before .before .before .before .before .before .before .loop-test .taken, c .before .before .before .before .before .before .before .before .before .before .before .before .before .before .before .loop .inv .1)
+
 add-t-3 : tie.Need-add-t-3 Inv-loop μ-loop
 add-t-3 c = omega (arith, woken (c .before .before .before .before .before .before .before .before .before .before .before .before) (c .before .before .before .before .before .before .before .before .before .before .before .before .before .before .before .before .before .before .before .pre), c .before .before .before .before .before .before .before .before .before .before .before .before .before .before .loop-test .taken)
 
 loop-less-3 : tie.Need-loop-less-3 Inv-loop μ-loop
-loop-less-3 c = omega (arith, woken (c .before .before .before .before .before .before .before .before .before .before .before .before) (c .before .before .before .before .before .before .before .before .before .before .before .before .before .before .before .before .before .before .before .pre), c .before .before .before .before .before .before .before .before .before .before .before .before .before .before .loop-test .taken, c .before .before .before .before .before .before .before .before .before .before .before .before .before .before .before .loop .inv .1 (c .before .before .before .before .before .before .before .before .before .before .before .before .before .before .before .before .before .before .before .pre))
+loop-less-3 c = omega (arith, woken (c .before .before .before .before .before .before .before .before .before .before .before .before) (c .before .before .before .before .before .before .before .before .before .before .before .before .before .before .before .before .before .before .before .pre), c .before .before .before .before .before .before .before .before .before .before .before .before .before .before .loop-test .taken, c .before .before .before .before .before .before .before .before .before .before .before .before .before .before .before .loop .inv .2 (c .before .before .before .before .before .before .before .before .before .before .before .before .before .before .before .before .before .before .before .pre))
 
 loop-again-3 : tie.Need-loop-again-3 Inv-loop μ-loop
 loop-again-3 c = (
   λ j l. omega arith,
+  omega (arith, c .before .before .before .before .before .before .before .before .before .before .before .before .before .before .before .loop .inv .1),
   λ e.
       let a = c .before .before .before .before .before .before .before .before .before .before .before .before .next-awake .result * c .before .before .before .before .before .before .before .before .before .before .before .before .before .before .before .before .before .before .before .args .h in
       let turn = c .before .before .before .before .before .ask in
-      going-plays (woken (c .before .before .before .before .before .before .before .before .before .before .before .before) e) (c .before .before .before .before .before .before .before .before .before .before .before .if1 .left) (c .before .before .before .before .before .before .before .before .before .before .before .before .before .before .loop-test .taken) (a + c .before .before .before .before .before .before .before .before .before .before .before .before .before .before .before .before .before .before .before .args .h - a) (omega arith) (turn .result) (turn .last .1 .1 .0) (turn .ensures .0)
-      (turn .ensures .1 .0) (turn .ensures .1 .1 .0) (turn .ensures .1 .1 .1) (turn .kept .1 .1 .0) (c .if3 .taken),
+      going-idle (going-plays (woken (c .before .before .before .before .before .before .before .before .before .before .before .before) e) (c .before .before .before .before .before .before .before .before .before .before .before .if1 .left) (c .before .before .before .before .before .before .before .before .before .before .before .before .before .before .loop-test .taken) (a + c .before .before .before .before .before .before .before .before .before .before .before .before .before .before .before .before .before .before .before .args .h - a) (omega arith) (turn .result) (turn .last .1 .1 .0) (turn .ensures .0)
+      (turn .ensures .1 .0) (turn .ensures .1 .1 .0) (turn .ensures .1 .1 .1) (turn .kept .1 .1 .0) (c .if3 .taken)) (omega (arith, c .before .before .before .before .before .before .before .before .before .before .before .before .before .before .before .loop .inv .1)),
 )
 
 add-i : tie.Need-add-i Inv-loop μ-loop
@@ -235,6 +240,7 @@ loop-less-4 c = omega (arith, woken (c .before .before .before .before .before .
 loop-again-4 : tie.Need-loop-again-4 Inv-loop μ-loop
 loop-again-4 c = (
   λ j l. omega arith,
+  c .before .before .before .before .before .before .before .before .before .before .before .before .before .before .before .loop .inv .1,
   λ e.
       let a = c .before .before .before .before .before .before .before .before .before .before .before .before .next-awake .result * c .before .before .before .before .before .before .before .before .before .before .before .before .before .before .before .before .before .before .before .args .h in
       let turn = c .before .before .before .before .before .ask in
@@ -242,27 +248,33 @@ loop-again-4 c = (
       (turn .ensures .1 .0) (turn .ensures .1 .1 .0) (turn .ensures .1 .1 .1) (turn .kept .1 .1 .0) (c .if3 .left),
 )
 
+sub-idle : tie.Need-sub-idle Inv-loop μ-loop
+sub-idle c = omega (arith, c .before .loop .inv .1, c .before .loop .inv .2 (c .before .before .before .before .before .pre))
+
+cast-idle : tie.Need-cast-idle Inv-loop μ-loop
+cast-idle c = omega (arith, c .before .loop .inv .2 (c .before .before .before .before .before .pre))
+
 after-requires : tie.Need-after-requires Inv-loop μ-loop
 after-requires c κs = search needs
 
 same-length : tie.Need-same-length Inv-loop μ-loop
-same-length c = (c .before .before .loop .inv .1 (c .before .before .before .before .before .before .pre)) .wall-length
+same-length c = (c .before .before .loop .inv .2 (c .before .before .before .before .before .before .pre)) .wall-length
 
 same-length-2 : tie.Need-same-length-2 Inv-loop μ-loop
-same-length-2 c = (c .before .before .loop .inv .1 (c .before .before .before .before .before .before .pre)) .own-length
+same-length-2 c = (c .before .before .loop .inv .2 (c .before .before .before .before .before .before .pre)) .own-length
 
 returns : tie.Need-returns Inv-loop μ-loop
 returns c = λ e.
     let start = c .before .before .before .before .before .before .args in
     let l = c .before .before .loop in
-    let g = l .inv .1 e in
+    let g = l .inv .2 e in
     let done : l .t ≡ start .h = omega (arith, g) in
     record {
       asked = l .i;
       wakes = l .wakes;
       running =
           rw (c .after .ensures)
-          (subst (λ t. Running (e .lines) (start .h) (start .log .now) (start .wall .now) (start .own .now) t (l .i) (l .booths) (l .wakes) (l .worked) (l .idle) (l .wall) (l .own)) done (g .running));
+          (subst (λ t. Running (e .lines) (start .h) (start .log .now) (start .wall .now) (start .own .now) t (l .i) (l .booths) (l .wakes) (l .worked) (t - l .sung) (l .wall) (l .own)) done (g .running));
     }
 
 pub run-spec : {M : Type 1} → statement M
@@ -275,12 +287,11 @@ run-spec =
     next-awake-requires
     sleep-to-requires
     slice-write-wall
-    add-idle
     add-t
     loop-less
     loop-again
     mul-a
-    cast-t25
+    cast-t26
     cast-number
     mul-goes-on
     array-copy-out-goes-on
@@ -304,6 +315,7 @@ run-spec =
     array-read-worked
     add-worked
     array-write-worked
+    add-sung
     add-t-2
     loop-less-2
     loop-again-2
@@ -325,12 +337,15 @@ run-spec =
     add-worked-2
     mul-worked-3
     array-write-worked-2
+    add-sung-2
     add-t-3
     loop-less-3
     loop-again-3
     add-i
     loop-less-4
     loop-again-4
+    sub-idle
+    cast-idle
     after-requires
     same-length
     same-length-2
