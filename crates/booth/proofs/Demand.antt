@@ -9,11 +9,11 @@ use native.Mathlib.Nat.{not-suc-le-zero, le-of-suc-le-suc, add-zero, add-suc, su
 use native.Mathlib.Omega.{arith}
 use lib.Dec.{eqb}
 use lib.ListN.{length, getD, take, set, length-set, List·getD-eq-default, length-take}
-use lib.Seq.{getD-set-same, getD-set-other, getD-take, take-set-lt, set-getD, set-set, set-out}
+use lib.Seq.{getD-set-same, getD-set-other, getD-take, take-set-lt, set-getD, set-set}
 use borrow.Author.Tests.{eq-eqb, ne-eqb}
 use Rattle.rules.specs.Moves.{nobody, noDemand, firstTask, addDemand, loseOne}
 use Rattle.booth.specs.declared.Booth.{Booth as HeldBooth}
-use Rattle.booth.specs.BoothHeld.{owed, laidDown, takenUp, demanding, playedOn}
+use Rattle.booth.specs.BoothHeld.{owed, demanding, playedOn}
 use Rattle.rules.proofs.FirstDemand.{First, first-here, no-demand, none-first, found-first, is-first}
 use Rattle.laws.proofs.Tasks.{no-demand-zero}
 
@@ -25,22 +25,12 @@ demand-or-none ds = go (noDemand ds) refl
     go true q = inl (q, none-first ds q)
     go false q = inr (q, found-first ds q)
 
-pub before-first : (ds : List ℕ) (j : ℕ) → j < firstTask 0 ds → getD ds j 0 ≡ 0
-before-first ds j h = ⊎-elim (λ w. no-demand-zero ds (w .0) j) (λ w. w .1 .before j h) (demand-or-none ds)
-
 -- with eight tasks at most, the first is nobody exactly where none has demand
 pub nobody-first : (ds : List ℕ) → length ds ≤ 8 → eqb (firstTask 0 ds) nobody ≡ noDemand ds
 nobody-first ds short =
     ⊎-elim (λ w. eq-eqb _ _ (w .1) ∙ sym (w .0)) (λ w. ne-eqb (firstTask 0 ds) nobody (λ e. omega (arith, e, w .1 .there)) ∙ sym (w .0)) (demand-or-none ds)
 
 -- ---- one task's demand changes
-
--- a task before the first gets some
-pub first-earlier : (ds : List ℕ) (k x : ℕ) → k < length ds → 0 < x → k < firstTask 0 ds → firstTask 0 (set ds k x) ≡ k
-first-earlier ds k x there some h =
-    (first-here (set ds k x) k
-    (is-first (set ds k x) k (rw (getD-set-same ds k x 0 there) some)
-    (λ j l. getD-set-other ds k j x 0 (λ e. absurd (omega arith)) ∙ before-first ds j (omega arith)))) .1
 
 -- the first task or one behind it has some
 pub first-same : (ds : List ℕ) (f k x : ℕ) → First ds f → k < length ds → 0 < x → f ≤ k → firstTask 0 (set ds k x) ≡ f
@@ -119,16 +109,3 @@ unfolding owed playedOn
 owed-played h there =
     ap (λ x. set (h .demand) (h .first) (x - 1)) (sym (getD-set-same (h .demand) (h .first) (h .left) 0 there))
     ∙ sym (set-set (h .demand) (h .first) (h .left) (getD (set (h .demand) (h .first) (h .left)) (h .first) 0 - 1))
-
--- with no first task there is nothing to lay down
-pub laid-none : (h : HeldBooth) → length (h .demand) ≤ h .first → h ≡ laidDown h
-unfolding laidDown owed
-laid-none h none = ap (λ ds. record { number = h .number; tasks = h .tasks; demand = ds; first = h .first; left = h .left; at = h .at; promise = h .promise; clock = h .clock; opens = h .opens; tick = h .tick; point = h .point }) (sym (set-out (h .demand) (h .first) (h .left) none))
-
--- a booth with this demand and this first task
-abbrev pub heading : HeldBooth → List ℕ → ℕ → HeldBooth
-heading h ds first = record { number = h .number; tasks = h .tasks; demand = ds; first = first; left = h .left; at = h .at; promise = h .promise; clock = h .clock; opens = h .opens; tick = h .tick; point = h .point }
-
-pub headed : (h : HeldBooth) (ds : List ℕ) (first : ℕ) → first ≡ firstTask 0 ds → takenUp (heading h ds first) ≡ demanding h ds
-unfolding takenUp demanding
-headed h ds first e = ap (λ k. record { number = h .number; tasks = h .tasks; demand = ds; first = k; left = getD ds k 0; at = h .at; promise = h .promise; clock = h .clock; opens = h .opens; tick = h .tick; point = h .point }) e

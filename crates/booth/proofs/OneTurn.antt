@@ -19,7 +19,7 @@ use Rattle.booth.specs.declared.Chosen.the-variants.{Task, Nothing}
 use Rattle.booth.specs.BoothHeld.{owed, shown, settledAnswer, asked, takesNext, goesOn, wakesAt, Steady, Fit, AfterAsk, playedOn}
 use Rattle.booth.proofs.Demand.{owed-eight}
 use Rattle.booth.proofs.Working.{held-first, opens-from, may-held, task-held, answers-task, Played, played-on, shown-worked, after-play}
-use Rattle.booth.proofs.Settling.{settles-first, settled-busy}
+use Rattle.booth.proofs.Settling.{both-true, settles-first, settled-busy}
 
 -- ---- what a settled booth's answer says
 
@@ -55,10 +55,6 @@ in-vain t b e = go (mayWork t b) refl
 both-held : (a b : Bool) → (not a && b) ≡ true → (a ≡ false) × (b ≡ true)
 both-held true b q = absurd (true≢false (sym q))
 both-held false b q = (refl, q)
-
-both-true : (a b : Bool) → (a && b) ≡ true → (a ≡ true) × (b ≡ true)
-both-true true b q = (refl, q)
-both-true false b q = absurd (true≢false (sym q))
 
 not-false : (a : Bool) → not a ≡ true → a ≡ false
 not-false true q = absurd (true≢false (sym q))

@@ -62,9 +62,9 @@ swap-or true b = sym (or-true b)
 swap-or false true = refl
 swap-or false false = refl
 
-both-first : (a b : Bool) → (a && b) ≡ true → a ≡ true
-both-first true b q = refl
-both-first false b q = q
+pub both-true : (a b : Bool) → (a && b) ≡ true → (a ≡ true) × (b ≡ true)
+both-true true b q = (refl, q)
+both-true false b q = absurd (true≢false (sym q))
 
 module _ (bs : List ℕ) (h : HeldBooth) (row : List ℕ) (t : ℕ) (fit : Fit bs h) where
   -- the code's test is the rule's
@@ -81,7 +81,7 @@ module _ (bs : List ℕ) (h : HeldBooth) (row : List ℕ) (t : ℕ) (fit : Fit b
 
   pub has-come : takesNext t h ≡ true → h .tick .0 ≤ t
   unfolding takesNext
-  has-come q = leb-true (h .tick .0) t (both-first (leb (h .tick .0) t) (eqb (h .first) nobody || leb (h .point .0) (h .clock .0)) q)
+  has-come q = leb-true (h .tick .0) t (both-true (leb (h .tick .0) t) (eqb (h .first) nobody || leb (h .point .0) (h .clock .0)) q .0)
 
   -- an entry that is taken stands in the log
   pub takes-inside : t < 1000001 → takesNext t h ≡ true → h .at < length bs

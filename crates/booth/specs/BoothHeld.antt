@@ -172,40 +172,6 @@ pub record Looked (bs : List ℕ) (h : HeldBooth) (from : ℕ) (r : HeldBooth) :
   pub later : from ≤ r .at
   pub same : waitingAt bs (h .number) (r .at) ≡ waitingAt bs (h .number) from
 
--- the first task's demand among the others
-unfoldable pub laidDown : HeldBooth → HeldBooth
-laidDown h =
-    record {
-      number = h .number;
-      tasks = h .tasks;
-      demand = owed h;
-      first = h .first;
-      left = h .left;
-      at = h .at;
-      promise = h .promise;
-      clock = h .clock;
-      opens = h .opens;
-      tick = h .tick;
-      point = h .point;
-    }
-
--- the first task's demand at hand
-unfoldable pub takenUp : HeldBooth → HeldBooth
-takenUp h =
-    record {
-      number = h .number;
-      tasks = h .tasks;
-      demand = h .demand;
-      first = h .first;
-      left = getD (h .demand) (h .first) 0;
-      at = h .at;
-      promise = h .promise;
-      clock = h .clock;
-      opens = h .opens;
-      tick = h .tick;
-      point = h .point;
-    }
-
 -- with this demand
 unfoldable pub demanding : HeldBooth → List ℕ → HeldBooth
 demanding h ds =

@@ -13,7 +13,7 @@ ghost use Rattle.rules.specs.Values.{lineHeld};
 ghost use Rattle.rules.specs.InRange.{Sound};
 ghost use Rattle.table.specs.Fit.{FitLine};
 ghost use Rattle.arrivals.specs.Places.{waitingAt, Place, WholeLog};
-ghost use Rattle.booth.specs.BoothHeld.{absentBooth, owed, shown, settledAnswer, asked, takesNext, takenNext, goesOn, wakesAt, Found, Looked, Steady, Fit, Stays, AfterSettle, AfterPlay, AfterAsk, laidDown, takenUp, demanding, clockAt, playedOn, lengthened};
+ghost use Rattle.booth.specs.BoothHeld.{absentBooth, owed, shown, settledAnswer, asked, takesNext, takenNext, goesOn, wakesAt, Found, Looked, Steady, Fit, Stays, AfterSettle, AfterPlay, AfterAsk, demanding, clockAt, playedOn, lengthened};
 use arrivals::FIRST_ENTRY;
 use rules::ENTRY_BYTES;
 use rules::Line;
@@ -162,56 +162,44 @@ impl Booth {
         self
     }
 
-    // What the first task has left goes back among the demand.
-    fn lay_down(mut self) -> Self
+    // Unplayed demand for each task: what the first has left goes back in its place.
+    fn owed(self) -> [u32; TASKS_ALLOWED]
         requires { ⌜ length (self .demand) ≡ 8 ⌝ }
-        ensures { λ r. ⌜ r ≡ laidDown self ⌝ }
+        ensures { λ r. ⌜ r ≡ owed self ⌝ }
     {
+        let mut all = self.demand;
         let first = self.first;
         if TASKS_ALLOWED <= first {
-            return self;
+            return all;
         }
-        self.demand[first] = self.left;
-        self
+        all[first] = self.left;
+        all
     }
 
-    // What the first task has left is taken to hand.
-    fn take_up(mut self) -> Self
-        requires { ⌜ length (self .demand) ≡ 8 ⌝ }
-        ensures { λ r. ⌜ r ≡ takenUp self ⌝ }
+    // The booth with this demand; what its first task has left stands apart.
+    fn demanding(mut self, all: [u32; TASKS_ALLOWED]) -> Self
+        requires { ⌜ length all ≡ 8 ⌝ }
+        ensures { λ r. ⌜ r ≡ demanding self all ⌝ }
     {
-        let first = self.first;
+        let first = rules::first_task(all);
+        self.demand = all;
+        self.first = first;
         if TASKS_ALLOWED <= first {
             self.left = 0;
             return self;
         }
-        self.left = self.demand[first];
+        self.left = all[first];
         self
     }
 
     // Task k has d more to play.
-    fn add(mut self, k: usize, d: u32) -> Self
-        requires { ⌜ (k < 8) × (0 < d) × (length (self .demand) ≡ 8) × (getD (owed self) k 0 + d < 4294967296) × (self .first ≡ moves.firstTask 0 (owed self)) ⌝ }
+    fn add(self, k: usize, d: u32) -> Self
+        requires { ⌜ (k < 8) × (length (self .demand) ≡ 8) × (getD (owed self) k 0 + d < 4294967296) ⌝ }
         ensures { λ r. ⌜ r ≡ demanding self (set (owed self) k (getD (owed self) k 0 + d)) ⌝ }
     {
-        self = self.lay_down();
-        self.demand[k] = self.demand[k] + d;
-        if k < self.first {
-            self.first = k;
-            return self.take_up();
-        }
-        self.take_up()
-    }
-
-    // The first task has nothing left: the next one with demand is the first.
-    fn turn_over(mut self) -> Self
-        requires { ⌜ length (self .demand) ≡ 8 ⌝ }
-        ensures { λ r. ⌜ r ≡ demanding self (owed self) ⌝ }
-    {
-        self = self.lay_down();
-        let all = self.demand;
-        self.first = rules::first_task(all);
-        self.take_up()
+        let mut all = self.owed();
+        all[k] = all[k] + d;
+        self.demanding(all)
     }
 
     // The own clock moves on to `to`, if it is not there yet.
@@ -299,7 +287,7 @@ impl Booth {
     }
 
     // A settled booth answers with a task to run at t, or with nothing.
-    pub fn choose(self, t: WallTick) -> Chosen
+    fn choose(self, t: WallTick) -> Chosen
         requires { ⌜ Steady self × (t .0 < 1000001) ⌝ }
         ensures { λ r. ⌜ ((l : PageLine) (bs row : List ℕ) → l .promise ≡ self .promise → r ≡ settledAnswer (t .0) (shown l bs self row)) ⌝ }
     {
@@ -351,7 +339,7 @@ impl Booth {
     }
 
     // The booth works: its first task with demand loses 1, its number goes into the row at u, u grows by 1.
-    pub fn play(mut self, row: &mut [u8], k: usize) -> Self
+    fn play(mut self, row: &mut [u8], k: usize) -> Self
         requires { ⌜ Steady self × (k < 8) × (k ≡ self .first) × (self .clock .0 < length (now row)) × (length (now row) < 1000001) × (self .opens .from .0 < 1000001) ⌝ }
         ensures fit { λ r. ⌜ AfterPlay self r ⌝ }
         ensures state { λ r. ⌜ ((l : PageLine) (bs : List ℕ) → shown l bs r (now (row .exit)) ≡ moves.work (shown l bs self (now (row .entry)))) ⌝ }
@@ -359,13 +347,14 @@ impl Booth {
     {
         self = self.play_on(row, k);
         if self.left == 0 {
-            return self.turn_over();
+            let all = self.owed();
+            return self.demanding(all);
         }
         self
     }
 
     // The wall tick before which the settled booth cannot work.
-    pub fn wakes(self) -> WallTick
+    fn wakes(self) -> WallTick
         requires { ⌜ Steady self ⌝ }
         ensures { λ r. ⌜ r .0 ≡ wakesAt self ⌝ }
     {

@@ -8,6 +8,7 @@ use lib.Seq.{drop-set-lt}
 use Rattle.booth.specs.declared.Booth.{Booth}
 use Rattle.booth.specs.BoothHeld.{owed, shown, Steady, playedOn, demanding}
 use Rattle.rules.proofs.FirstDemand.{First}
+use Rattle.booth.proofs.Demand.{owed-eight}
 use Rattle.booth.proofs.Working.{Played, played-on, played-out, held-first, shown-worked, after-play}
 use borrow.Author.Needs.{needs}
 use Rattle.booth.proofs.Booth.play.Statement.{statement}
@@ -24,29 +25,36 @@ behind h r row after p e = ap (drop (r .clock .0)) e ∙ drop-set-lt (r .clock .
 play-on-requires : tie.Need-play-on-requires
 play-on-requires c κs = search needs
 
-turn-over-requires : tie.Need-turn-over-requires
+owed-requires : tie.Need-owed-requires
 unfolding playedOn
-turn-over-requires c κs =
+owed-requires c κs =
     let start = c .before .before .before .before .before .before .before in
     ap (λ (x : Booth). length (x .demand)) (c .before .before .before .before .play-on .ensures .0) ∙ start .pre .0 .eight
+
+demanding-requires : tie.Need-demanding-requires
+unfolding playedOn
+demanding-requires c κs =
+    let start = c .before .before .before .before .before .before .before .before in
+    let played = c .before .before .before .before .before .play-on in
+    ap length (c .owed .ensures) ∙ owed-eight (played .result) ∙ ap (λ (x : Booth). length (x .demand)) (played .ensures .0) ∙ start .pre .0 .eight
 
 same-length : tie.Need-same-length
 same-length c = search needs
 
 returns : tie.Need-returns
 returns c =
-    let start = c .before .before .before .before .before .before .before .before in
+    let start = c .before .before .before .before .before .before .before .before .before in
     let h = start .args .self in
     let row = start .args .row .now in
     let s = start .pre .0 in
     let f = first-here h s (omega (arith, start .pre)) in
-    let played = c .before .before .before .before .before .play-on in
-    let p : Played h (c .turn-over .result) =
-    subst (Played h) (sym (c .turn-over .ensures ∙ ap (λ (x : Booth). demanding x (owed x)) (played .ensures .0))) (played-out h s f) in (
-      after-play h s f (c .turn-over .result) p,
+    let played = c .before .before .before .before .before .before .play-on in
+    let p : Played h (c .demanding .result) =
+    subst (Played h) (sym (c .demanding .ensures ∙ ap (demanding (played .result)) (c .before .owed .ensures) ∙ ap (λ (x : Booth). demanding x (owed x)) (played .ensures .0))) (played-out h s f) in (
+      after-play h s f (c .demanding .result) p,
       (
-        λ l bs. ap (shown l bs (c .turn-over .result)) (played .ensures .1) ∙ shown-worked h s f (c .turn-over .result) p l bs row (start .pre .3),
-        behind h (c .turn-over .result) row _ p (played .ensures .1),
+        λ l bs. ap (shown l bs (c .demanding .result)) (played .ensures .1) ∙ shown-worked h s f (c .demanding .result) p l bs row (start .pre .3),
+        behind h (c .demanding .result) row _ p (played .ensures .1),
       ),
     )
 
@@ -72,4 +80,4 @@ returns-2 c =
     )
 
 pub play-spec : {M : Type 1} → statement M
-play-spec = tie.close (tie.spec play-on-requires turn-over-requires same-length returns same-length-2 returns-2)
+play-spec = tie.close (tie.spec play-on-requires owed-requires demanding-requires same-length returns same-length-2 returns-2)

@@ -38,10 +38,8 @@ add-requires c κs =
     let d = c .before .before .before .before .before .entry-demand .ensures in
     let ds : owed (c .before .before .pass .result) ≡ owed h = ap owed moved ∙ owed-moved h (h .clock .0 + (h .point .0 - h .clock .0)) in (
       omega (arith, k, own-task bs h fit more, fit .steady .tasks),
-      omega (arith, d .0, start .pre .0 .0 .demands (h .at) (fit .waits .place) more),
       ap (λ (x : Booth). length (x .demand)) moved ∙ fit .steady .eight,
       omega (arith, d .1, fit .room (c .before .before .before .before .before .before .entry-task .result), ap (λ xs. getD xs (c .before .before .before .before .before .before .entry-task .result) 0) ds),
-      ap (λ (x : Booth). x .first) moved ∙ fit .steady .first ∙ ap (firstTask 0) (sym ds),
     )
 
 add-look : tie.Need-add-look
