@@ -66,9 +66,7 @@ static void print_refusal(const char *what, const char *name, uint32_t number, u
 
 static void print_session(const hallanupp_session_answer *answer, const uint8_t *wall, const uint8_t *own)
 {
-    size_t ticks = answer->idle;
-    for (size_t booth = 0; booth < answer->booths; booth++)
-        ticks += answer->worked[booth];
+    size_t ticks = answer->wall_ticks;
     printf("admitted %llu\nwall ", (unsigned long long)answer->booths);
     print_ticks(wall, ticks);
     for (size_t booth = 0; booth < answer->booths; booth++) {

@@ -49,6 +49,8 @@ pub struct SessionAnswer {
     /// Each booth's worked ticks.
     pub worked: [u32; 8],
     pub idle: u32,
+    /// H.
+    pub wall_ticks: u32,
 }
 
 impl SessionAnswer {
@@ -59,6 +61,7 @@ impl SessionAnswer {
             clocks: [0; 8],
             worked: [0; 8],
             idle: 0,
+            wall_ticks: 0,
         }
     }
 }

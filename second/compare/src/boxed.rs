@@ -12,6 +12,7 @@ use crate::answers::{PanelRow, Row, SessionAnswer};
 pub const TEXT_ROOM: usize = 18_710;
 
 extern "C" {
+    fn hallanupp_version() -> u32;
     fn hallanupp_table_verdict(table: *const u8, table_len: usize) -> Verdict;
     fn hallanupp_files_verdict(
         table: *const u8,
@@ -62,6 +63,12 @@ extern "C" {
         text: *mut u8,
         text_len: usize,
     ) -> usize;
+}
+
+/// The library's version.
+pub fn version() -> u32 {
+    // SAFETY: nothing is lent.
+    unsafe { hallanupp_version() }
 }
 
 /// The verdict on a booth table.

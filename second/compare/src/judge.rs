@@ -60,6 +60,7 @@ pub fn session(table: &[u8], log: &[u8], wall: &mut [u8], own: &mut [u8]) -> Ses
         clocks: outcome.own_clocks.map(|u| u.0 as u32),
         worked: outcome.worked.map(|worked| worked as u32),
         idle: outcome.idle as u32,
+        wall_ticks: outcome.wall_ticks().0 as u32,
     }
 }
 

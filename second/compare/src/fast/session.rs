@@ -37,5 +37,6 @@ pub fn session(table: &[u8], log: &[u8], wall: &mut [u8], own: &mut [u8]) -> Ses
         clocks: from_fn(|number| booths[number].u),
         worked,
         idle: log.wall_ticks - worked.iter().sum::<u32>(),
+        wall_ticks: log.wall_ticks,
     }
 }
