@@ -9,7 +9,7 @@
 #include <string.h>
 
 /* No table and log that are accepted are longer together. */
-enum { MOST_BYTES = 37044, INPUT_TOO_LONG = 12, MOST_TICKS = 1000000, MOST_BOOTHS = 8 };
+enum { MOST_BYTES = 37044, MOST_TICKS = 1000000, MOST_BOOTHS = 8 };
 
 static const char HELP[] = "usage: play [TABLE LOG]\n\n"
                            "Plays a booth table and an arrival log, or without them the audition.\n"
@@ -93,7 +93,7 @@ int main(int count, char **names)
         return asked ? 0 : 2;
     }
     if (table_len + log_len > MOST_BYTES) {
-        print_refusal("input", named[2], INPUT_TOO_LONG, MOST_BYTES);
+        print_refusal("input", named[2], HALLANUPP_INPUT_TOO_LONG, MOST_BYTES);
         return 1;
     }
     hallanupp_session_answer answer = hallanupp_session(table, table_len, log, log_len, wall, sizeof wall, own, sizeof own);
