@@ -1,17 +1,25 @@
 // Admission: the response test of every booth of a table whose lines are in range.
 ghost use mathlib.Core.Path.{_≡_};
-ghost use mathlib.Core.List.{[], map};
+ghost use mathlib.Core.List.{[]};
 ghost use Prim.Native.Nat.{_+_, _≤_, _<_};
-ghost use lib.ListN.{take, getD};
+ghost use lib.ListN.{length, take, getD};
 ghost use Rattle.base.specs.Refusals.{faultOf};
 ghost use Rattle.rules.specs.Admission as admission;
-ghost use Rattle.rules.specs.Values.{no-held-line, lineHeld, linesHeld};
-ghost use Rattle.rules.specs.Fit.{FitLines, FitTable};
+ghost use Rattle.rules.specs.BoothTable.{no-line};
+ghost use Rattle.rules.specs.Values.{linesHeld};
+ghost use Rattle.rules.specs.Fit.{FitTable};
 ghost use Rattle.admission.specs.NotAdmitted.{notAdmitted};
+ghost use Rattle.admission.specs.Promised.{promisesOf, promised, FitPromises};
 use base::Fault;
 use rules::BOOTHS_ALLOWED;
 use rules::Line;
 use rules::Table;
+
+// What the booths are promised, booth by booth.
+pub struct Promises {
+    pub periods: [u32; BOOTHS_ALLOWED],
+    pub allowances: [u32; BOOTHS_ALLOWED],
+}
 
 fn rounded_up(n: u32, m: u32) -> u32
     requires { ⌜ (n ≤ 10000) × (0 < m) × (m ≤ 10000) ⌝ }
@@ -28,36 +36,59 @@ fn rounded_up(n: u32, m: u32) -> u32
 }
 
 // What the booths before booth i ask of `r` wall ticks.
-fn asked_above(lines: [Line; BOOTHS_ALLOWED], i: usize, r: u32) -> u32
-    requires { ⌜ FitLines lines i × (r ≤ 10000) ⌝ }
-    ensures { λ a. ⌜ (a ≡ admission.askedAbove (map lineHeld (take i lines)) r) × (a ≤ 1600000000) ⌝ }
+fn asked_above(
+    periods: &[u32; BOOTHS_ALLOWED],
+    allowances: &[u32; BOOTHS_ALLOWED],
+    i: usize,
+    r: u32,
+) -> u32
+    requires { ⌜ FitPromises (now periods) (now allowances) i × (r ≤ 10000) ⌝ }
+    ensures { λ a. ⌜ (a ≡ admission.askedAbove (take i (promised (now (periods .entry)) (now (allowances .entry)))) r) × (a ≤ 1600000000) ⌝ }
 {
     let mut asked: u32 = 0;
     let mut j = 0;
     while j < i {
-        let line = lines[j];
-        let promise = line.promise;
-        asked += promise.allowance * rounded_up(r, promise.period);
+        asked += allowances[j] * rounded_up(r, periods[j]);
         j += 1;
     }
     asked
 }
 
 // The response test: some whole R from 1 to T has room for the booth's B and what the booths before it ask.
-fn passes(lines: [Line; BOOTHS_ALLOWED], i: usize) -> bool
-    requires { ⌜ FitLines lines (i + 1) ⌝ }
-    ensures { λ r. ⌜ r ≡ admission.passes (map lineHeld (take i lines)) (lineHeld (getD lines i no-held-line)) ⌝ }
+fn passes(periods: &[u32; BOOTHS_ALLOWED], allowances: &[u32; BOOTHS_ALLOWED], i: usize) -> bool
+    requires { ⌜ FitPromises (now periods) (now allowances) (i + 1) ⌝ }
+    ensures { λ r. ⌜ r ≡ admission.passes (take i (promised (now (periods .entry)) (now (allowances .entry)))) (getD (promised (now (periods .entry)) (now (allowances .entry))) i no-line) ⌝ }
 {
-    let line = lines[i];
-    let promise = line.promise;
-    let mut r = promise.period;
+    let allowance = allowances[i];
+    let mut r = periods[i];
     while 0 < r {
-        if promise.allowance + asked_above(lines, i, r) <= r {
+        if allowance + asked_above(periods, allowances, i, r) <= r {
             return true;
         }
         r -= 1;
     }
     false
+}
+
+// Laid out once, so that no line is copied for an R that is tried.
+fn laid_out(lines: [Line; BOOTHS_ALLOWED]) -> Promises
+    requires { ⌜ length lines ≡ 8 ⌝ }
+    ensures { λ r. ⌜ r ≡ promisesOf lines ⌝ }
+{
+    let mut periods = [0u32; BOOTHS_ALLOWED];
+    let mut allowances = [0u32; BOOTHS_ALLOWED];
+    let mut k = 0;
+    while k < BOOTHS_ALLOWED {
+        let line = lines[k];
+        let promise = line.promise;
+        periods[k] = promise.period;
+        allowances[k] = promise.allowance;
+        k += 1;
+    }
+    Promises {
+        periods,
+        allowances,
+    }
 }
 
 // Admission, booth 0 first; the first that fails is refused where its record starts.
@@ -67,9 +98,12 @@ pub fn admission_fault(table: Table, starts: [usize; BOOTHS_ALLOWED]) -> Fault
 {
     let lines = table.lines;
     let booths = table.booths;
+    let laid = laid_out(lines);
+    let periods = laid.periods;
+    let allowances = laid.allowances;
     let mut i = 0;
     while i < booths {
-        if !passes(lines, i) {
+        if !passes(&periods, &allowances, i) {
             return base::fault_at(base::NOT_ADMITTED, starts[i]);
         }
         i += 1;
