@@ -8,7 +8,6 @@ use lib.Dec.{leb}
 use lib.ListN.{length, take, getD, replicate, length-map, set, List·getD-map}
 use lib.Seq.{take-all, length-take-le}
 use Rattle.rules.specs.declared.Line.{Line as HeldLine}
-use Rattle.rules.specs.declared.Promise.{Promise}
 use Rattle.rules.specs.declared.Table.{Table}
 use Rattle.rules.specs.BoothTable.{Line}
 use Rattle.rules.specs.Admission.{roundedUp, askedAbove, someUpTo, passes, firstFailing}

@@ -1,11 +1,10 @@
 -- `admission::laid_out` meets its contract: after k turns the arrays hold the first k promises. Assumes nothing.
-use mathlib.Core.Path.{_≡_, refl, sym, ap, _∙_}
+use mathlib.Core.Path.{refl, ap, _∙_}
 use mathlib.Core.List.{map}
-use Prim.Native.Nat.{_+_, _-_, _≤_, _<_}
+use Prim.Native.Nat.{_-_, _≤_}
 use native.Mathlib.Omega.{arith}
 use borrow.Author.Needs.{needs}
-use lib.ListN.{length, take, getD}
-use Rattle.rules.specs.Values.{padded, no-held-line}
+use Rattle.rules.specs.Values.{padded}
 use Rattle.admission.specs.Promised.{promisesOf}
 use Rattle.admission.proofs.LaidOut.{Laid, laid-more, laid-all}
 use Rattle.admission.proofs.laid_out.Statement.{statement}
