@@ -13,7 +13,7 @@ use Rattle.rules.specs.Values.{lineHeld, linesHeld, no-held-line}
 use Rattle.laws.specs.Statements.{GoodEntry, no-entry}
 use Rattle.laws.specs.Ordered.{Sorted}
 use Rattle.laws.proofs.Readers.{all-at, LogRead, read-log}
-use Rattle.table.proofs.Test.{line-in}
+use Rattle.rules.proofs.Fitting.{line-in}
 use Rattle.arrivals.specs.Places.{entriesFrom, entriesOf, logOf, Place, WholeLog}
 use Rattle.arrivals.proofs.PlaceLaws.{length-from, from-at, place-index}
 

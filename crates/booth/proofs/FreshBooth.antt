@@ -14,8 +14,8 @@ use Rattle.rules.specs.Session.{freshBooth}
 use Rattle.rules.specs.Values.{lineHeld}
 use Rattle.rules.proofs.Held.{zeros}
 use Rattle.rules.specs.InRange.{Sound}
-use Rattle.table.proofs.Test.{fit-sound, fit-short}
-use Rattle.table.specs.Fit.{FitLine}
+use Rattle.rules.proofs.Fitting.{fit-sound, fit-short}
+use Rattle.rules.specs.Fit.{FitLine}
 use Rattle.arrivals.specs.Places.{waitingAt, Place, WholeLog}
 use Rattle.booth.specs.declared.Booth.{Booth as HeldBooth}
 use Rattle.booth.specs.BoothHeld.{owed, shown, Fit, lookingAt, Looked}

@@ -11,7 +11,7 @@ ghost use Rattle.rules.specs.Opens.{opensAt};
 ghost use Rattle.rules.specs.Session.{freshBooth};
 ghost use Rattle.rules.specs.Values.{lineHeld};
 ghost use Rattle.rules.specs.InRange.{Sound};
-ghost use Rattle.table.specs.Fit.{FitLine};
+ghost use Rattle.rules.specs.Fit.{FitLine};
 ghost use Rattle.arrivals.specs.Places.{waitingAt, Place, WholeLog};
 ghost use Rattle.booth.specs.BoothHeld.{absentBooth, owed, shown, settledAnswer, asked, takesNext, takenNext, goesOn, wakesAt, Found, Looked, Steady, Fit, Stays, AfterSettle, AfterPlay, AfterAsk, demanding, clockAt, playedOn, lengthened};
 use arrivals::FIRST_ENTRY;

@@ -10,7 +10,7 @@ use Rattle.rules.specs.ArrivalLog.{Entry, Log, entryAt}
 use Rattle.rules.specs.Moves.{Booth}
 use Rattle.rules.specs.Session.{ownEntries, freshBooth}
 use Rattle.rules.specs.Values.{padded, lineHeld, linesHeld, no-held-line}
-use Rattle.table.specs.Fit.{FitTable}
+use Rattle.rules.specs.Fit.{FitTable}
 use Rattle.arrivals.specs.Places.{entriesFrom, waitingAt, Place, WholeLog, entriesOf}
 use Rattle.laws.specs.Courses.{AsRead, nobooth, Course, Closing}
 use Rattle.booth.specs.declared.Booth.{Booth as HeldBooth}

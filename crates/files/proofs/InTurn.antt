@@ -14,7 +14,7 @@ use Rattle.rules.proofs.Held.{lines-held}
 use Rattle.rules.proofs.TwoFiles.{both-taken}
 use Rattle.laws.proofs.Readers.{read-log}
 use Rattle.table.specs.declared.TableAnswer.{TableAnswer}
-use Rattle.table.specs.Fit.{FitTable}
+use Rattle.rules.specs.Fit.{FitTable}
 use Rattle.table.proofs.Numbers.{TableTaken}
 use Rattle.arrivals.specs.declared.LogAnswer.{LogAnswer}
 use Rattle.arrivals.specs.Places.{logOf}

@@ -8,7 +8,7 @@ use Rattle.rules.specs.Verdicts.{accepted}
 use Rattle.rules.specs.ArrivalLog.{entryAt, longest-session}
 use Rattle.rules.specs.Files.{TwoFiles, bothTaken, oneRefused, readFiles}
 use Rattle.rules.specs.Values.{heldTable, linesHeld, no-held-line}
-use Rattle.table.specs.Fit.{FitTable}
+use Rattle.rules.specs.Fit.{FitTable}
 use Rattle.arrivals.specs.Places.{logOf, Place, WholeLog}
 use Rattle.files.specs.declared.Files.{Files}
 

@@ -16,7 +16,7 @@ use Rattle.rules.specs.ArrivalLog.{Entry, Log}
 use Rattle.rules.specs.Moves.{Booth, nobody}
 use Rattle.rules.specs.Session.{ownEntries, freshBooth, openBooths, settledAt, count, workedFrom, writeRows, played}
 use Rattle.rules.specs.Values.{padded, lineHeld, linesHeld, no-held-line}
-use Rattle.table.proofs.Test.{lines-in, line-in}
+use Rattle.rules.proofs.Fitting.{lines-in, line-in}
 use Rattle.laws.proofs.Run.{getD-map, open-at, length-booths}
 use Rattle.laws.specs.Ordered.{Sorted}
 use Rattle.laws.specs.Courses.{AsRead, nobooth, Course, Closing}

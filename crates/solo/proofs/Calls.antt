@@ -20,7 +20,7 @@ use Rattle.rules.specs.Session.{ownEntries}
 use Rattle.rules.specs.SoloPart.{solo, soloChecks, askSolo}
 use Rattle.rules.specs.Values.{lineHeld, linesHeld, no-held-line}
 use Rattle.base.proofs.Checks.{passed}
-use Rattle.table.proofs.Test.{line-in}
+use Rattle.rules.proofs.Fitting.{line-in}
 
 -- ---- the promises of a table as the code holds it
 

@@ -7,7 +7,7 @@ use lib.ListN.{getD}
 use Rattle.rules.specs.BoothTable.{no-line}
 use Rattle.rules.specs.Due.{due}
 use Rattle.rules.specs.Values.{linesHeld, no-held-line}
-use Rattle.table.proofs.Test.{fit-sound}
+use Rattle.rules.proofs.Fitting.{fit-sound}
 use Rattle.files.specs.declared.Files.{Files}
 use Rattle.files.specs.Told.{FilesTaken}
 use Rattle.laws.proofs.DueLaws.{due-at-most}

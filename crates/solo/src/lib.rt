@@ -9,7 +9,7 @@ ghost use Rattle.rules.specs.InRange.{Sound};
 ghost use Rattle.base.specs.Refusals.{firstFault, faultOf};
 ghost use Rattle.rules.specs.SoloPart as page;
 ghost use Rattle.rules.specs.Values.{lineHeld, linesHeld};
-ghost use Rattle.table.specs.Fit.{FitTable};
+ghost use Rattle.rules.specs.Fit.{FitTable};
 ghost use Rattle.arrivals.specs.Places.{Place, waitingAt};
 ghost use Rattle.solo.specs.Alone.{Alone, Point, Plays, Admitted, Passed, ownTick};
 use arrivals::FIRST_ENTRY;

@@ -9,7 +9,7 @@ use Rattle.rules.specs.Panel.{panelRow}
 use Rattle.rules.specs.Values.{no-held-line}
 use Rattle.table.proofs.Numbers.{answer-taken, answer-refused, taken-booths, taken-promise}
 use Rattle.panel.specs.Shown.{shownRow}
-use Rattle.table.proofs.Test.{fit-sound}
+use Rattle.rules.proofs.Fitting.{fit-sound}
 use Rattle.panel.proofs.Cases.{panel-bad-table, panel-absent, panel-past, panel-long, panel-read}
 use Rattle.panel.proofs.panel.Statement.{statement}
 use Rattle.panel.proofs.panel.Tie as tie

@@ -8,7 +8,7 @@ use Rattle.base.specs.Refusals.{refusal}
 use Rattle.rules.specs.Verdicts.{refusedAs}
 use Rattle.rules.specs.Session as page
 use Rattle.rules.specs.Values.{linesHeld}
-use Rattle.table.proofs.Test.{lines-in}
+use Rattle.rules.proofs.Fitting.{lines-in}
 use Rattle.arrivals.specs.Places.{logOf}
 use Rattle.files.specs.Told.{FilesTaken}
 use Rattle.session.specs.SessionAnswered.{answered}

@@ -7,7 +7,7 @@ use Rattle.rules.specs.BoothTable.{no-line}
 use Rattle.rules.specs.Due.{due}
 use Rattle.base.specs.Refusals.{faultOf}
 use Rattle.rules.specs.Values.{linesHeld}
-use Rattle.table.proofs.Test.{lines-in, fit-sound}
+use Rattle.rules.proofs.Fitting.{lines-in, fit-sound}
 use Rattle.solo.proofs.Calls.{promise-in, call-absent, call-many, call-long, call-fits}
 use borrow.Author.Needs.{needs}
 use Rattle.solo.proofs.call_fault.Statement.{statement}

@@ -9,7 +9,7 @@ use Rattle.rules.specs.Verdicts.{refusedAs}
 use Rattle.rules.specs.SoloPart.{solo, soloChecks}
 use Rattle.rules.specs.Values.{linesHeld}
 use Rattle.base.proofs.Checks.{nothing-found, fault-found}
-use Rattle.table.proofs.Test.{lines-in, line-in}
+use Rattle.rules.proofs.Fitting.{lines-in, line-in}
 use Rattle.arrivals.specs.Places.{entriesOf, logOf, waitingAt}
 use Rattle.files.specs.Told.{FilesTaken}
 use Rattle.solo.proofs.Calls.{Fits, call-passed, bad-files, bad-call, part-written}

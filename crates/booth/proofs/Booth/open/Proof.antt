@@ -4,7 +4,7 @@ use Prim.Native.Nat.{_≤_}
 use native.Mathlib.Omega.{arith}
 use Rattle.rules.specs.declared.Opens.{Opens}
 use Rattle.laws.proofs.DueLaws.{due-zero}
-use Rattle.table.proofs.Test.{fit-sound, fit-short}
+use Rattle.rules.proofs.Fitting.{fit-sound, fit-short}
 use Rattle.arrivals.proofs.PlaceLaws.{first-place}
 use Rattle.booth.proofs.FreshBooth.{unopened, unopenedAt, open-fit, open-fresh}
 use Rattle.booth.proofs.Settling.{near}

@@ -1,0 +1,2 @@
+pub mod NotAdmitted
+pub mod Promised
