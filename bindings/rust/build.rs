@@ -53,8 +53,12 @@ fn build(root: &Path) -> Result<(), String> {
     match built {
         Ok(said) if said.status.success() => Ok(()),
         Ok(said) => {
-            let said = String::from_utf8_lossy(&said.stdout) + String::from_utf8_lossy(&said.stderr);
-            Err(format!("`rt staticlib hallanupp` did not build {LIBRARY}; it said:\n{said}"))
+            let said = [said.stdout, said.stderr].concat();
+            let said = String::from_utf8_lossy(&said);
+            Err(format!(
+                "`rt staticlib hallanupp` did not build {LIBRARY}; it said: {}",
+                said.trim()
+            ))
         }
         Err(error) if error.kind() == ErrorKind::NotFound => Err(format!(
             "{LIBRARY} is not in target/staticlib of the repository, and rt, which builds it, is not on the PATH"

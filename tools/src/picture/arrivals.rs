@@ -12,6 +12,7 @@ const TRACK: usize = 12;
 const FLAG: usize = 10;
 
 /// What a line of the picture shows of a job.
+#[derive(Debug, PartialEq)]
 struct Part {
     task: u8,
     ticks: Range<usize>,
@@ -20,6 +21,7 @@ struct Part {
     end: End,
 }
 
+#[derive(Debug, PartialEq)]
 enum End {
     Played,
     /// First played in a later line of the picture.
@@ -134,4 +136,58 @@ pub fn samples(scale: &Scale, task: u8) -> [Svg; 2] {
         svg
     };
     [sample(0..2, End::Played), sample(0..1, End::Never)]
+}
+
+#[cfg(test)]
+mod tests {
+    use super::*;
+    use crate::values::Arrival;
+
+    fn job(tick: usize, first_played: Option<usize>) -> Job {
+        let arrival = Arrival {
+            tick,
+            booth: 0,
+            task: 5,
+            demand: 1,
+        };
+        Job {
+            arrival,
+            first_played,
+        }
+    }
+
+    fn shown(ticks: Range<usize>, arrives: bool, end: End) -> Option<Part> {
+        Some(Part {
+            task: 5,
+            ticks,
+            arrives,
+            end,
+        })
+    }
+
+    /// Lines of 100 ticks: a job that arrives in the first and is played in the third.
+    #[test]
+    fn a_job_in_the_lines_of_a_picture() {
+        let waits = job(90, Some(210));
+        assert_eq!(part(&waits, &(0..100)), shown(90..100, true, End::GoesOn));
+        assert_eq!(part(&waits, &(100..200)), None);
+        assert_eq!(
+            part(&waits, &(200..300)),
+            shown(200..211, false, End::Played)
+        );
+        let at_once = job(90, Some(90));
+        assert_eq!(part(&at_once, &(0..100)), shown(90..91, true, End::Played));
+        let never = job(90, None);
+        assert_eq!(part(&never, &(0..100)), shown(90..91, true, End::Never));
+        assert_eq!(part(&never, &(100..200)), None);
+    }
+
+    /// A tick that two jobs share puts them on two tracks; a track is used again.
+    #[test]
+    fn jobs_that_meet_have_tracks_of_their_own() {
+        let waits = [(0, 4), (4, 5), (5, 9), (2, 2), (4, 4)];
+        let parts = waits.map(|(from, to)| part(&job(from, Some(to)), &(0..10)));
+        let parts: Vec<Part> = parts.into_iter().flatten().collect();
+        assert_eq!(tracks(&parts), [0, 1, 0, 1, 2]);
+    }
 }

@@ -44,8 +44,8 @@ fn axis(drawn: &Drawn, ticks: Range<usize>, bottom: usize) -> Svg {
             r#"<path class="guide" d="M{x} {AXIS}V{bottom}"/>"#
         ));
         let (class, x) = match cell {
-            WIDE.. => ("tick middle", x + cell / 2),
-            _ => ("tick", x),
+            WIDE.. => ("tick middle", x as f64 + cell as f64 / 2.0),
+            _ => ("tick", x as f64),
         };
         svg.text(class, (x, AXIS - 5), tick);
     }

@@ -48,7 +48,7 @@ impl Scale {
     pub fn step(&self) -> usize {
         match self.cell {
             ..14 => 10,
-            ..24 => 5,
+            14..24 => 5,
             _ => 1,
         }
     }
