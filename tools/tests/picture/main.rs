@@ -6,6 +6,7 @@ mod svg;
 use std::fs;
 use std::path::PathBuf;
 use std::process::Command;
+use std::sync::atomic::{AtomicUsize, Ordering};
 
 use hallanupp::{Session, IDLE};
 use svg::{attribute, definition, placed, words, Axis, Placed};
@@ -25,13 +26,18 @@ fn sample(name: &str) -> PathBuf {
         .join(name)
 }
 
+/// How many pictures were drawn.
+static PICTURES: AtomicUsize = AtomicUsize::new(0);
+
 /// The promises, period then allowance, are those that examples/README.md says.
 fn draw(name: &str, promises: &[(usize, usize)]) -> Drawn {
     let (table, log) = (
         sample(&format!("{name}.table")),
         sample(&format!("{name}.log")),
     );
-    let file = PathBuf::from(env!("CARGO_TARGET_TMPDIR")).join(format!("{name}.svg"));
+    // Tests run side by side, so no two draw into one file.
+    let number = PICTURES.fetch_add(1, Ordering::Relaxed);
+    let file = PathBuf::from(env!("CARGO_TARGET_TMPDIR")).join(format!("{number}.svg"));
     let tool = Command::new(env!("CARGO_BIN_EXE_hallanupp"))
         .arg("draw")
         .args([&table, &log])
