@@ -121,9 +121,9 @@ fn flag_width(scale: &Scale) -> usize {
     scale.cell.min(18) * 2 / 3
 }
 
-/// For the legend, a job of this task that is first played at the wall tick behind
-/// its arrival, and one that is never played.
-pub fn samples(scale: &Scale, task: u8) -> [Svg; 2] {
+/// For the legend, jobs of this task: one that is first played at the wall tick behind
+/// its arrival, one that goes on in a later line, and one that is never played.
+pub fn samples(scale: &Scale, task: u8) -> [Svg; 3] {
     let sample = |ticks, end| {
         let part = Part {
             task,
@@ -135,7 +135,11 @@ pub fn samples(scale: &Scale, task: u8) -> [Svg; 2] {
         part.draw(scale, 3, 3 + TRACK, &mut svg);
         svg
     };
-    [sample(0..2, End::Played), sample(0..1, End::Never)]
+    [
+        sample(0..2, End::Played),
+        sample(0..2, End::GoesOn),
+        sample(0..1, End::Never),
+    ]
 }
 
 #[cfg(test)]

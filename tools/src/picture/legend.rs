@@ -36,12 +36,19 @@ impl Legend {
     }
 
     fn jobs(&mut self, drawn: &Drawn, task: u8) {
-        let [played, never] = samples(&drawn.scale, task);
+        let [played, goes_on, never] = samples(&drawn.scale, task);
         self.row(
             drawn,
             played,
             "a job of this task arrives; the wall tick at which it is first played",
         );
+        if drawn.scale.lines().count() > 1 {
+            self.row(
+                drawn,
+                goes_on,
+                "first played in a later line, which its line enters at the left",
+            );
+        }
         let mut jobs = drawn.booths.iter().flat_map(|booth| &booth.jobs);
         if jobs.any(|job| job.first_played.is_none()) {
             self.row(drawn, never, "a job that the session does not come to");
@@ -78,7 +85,11 @@ pub fn legend(drawn: &Drawn, place: (usize, usize), svg: &mut Svg) -> usize {
     );
     let mut bar = Svg::default();
     bar.push(format_args!(r#"<path class="period" d="M1 0V{LOW}"/>"#));
-    legend.row(drawn, bar, "a period begins");
+    legend.row(
+        drawn,
+        bar,
+        "a period begins; behind its own ticks, how many are spent of those due",
+    );
     svg.group("legend", place, &legend.rows);
     legend.height
 }
