@@ -1,8 +1,18 @@
 /* Hallanupp: the scheduler of a direct-monitor box for singers.
  *
  * Link with libhallanupp.a. Every function takes any bytes and any lengths; each pointer must be valid for as many
- * bytes as the length that follows it says, and a pointer that is written through must not overlap another. Nothing is
- * allocated and nothing is kept between calls. A refused call writes nothing.
+ * bytes as the length that follows it says, so NULL may go with length 0, and a pointer that is written through must not
+ * overlap another. Nothing is allocated and nothing is kept between calls. A refused call writes nothing.
+ *
+ * A table, or booth table, is what each of 1 to 8 booths is promised: an allowance of ticks in every period, and the
+ * longest job of each of its 1 to 8 tasks. Booths and tasks are numbered from 0, highest priority first.
+ *
+ * A log, or arrival log, is how long a session lasts and the jobs that arrive in it: up to 4,096 entries, each with its
+ * wall tick, its booth, its task and its demand in ticks.
+ *
+ * H is the wall ticks of a session, 0 to 1,000,000. The log says it, and it sets how long the two records must be.
+ *
+ * docs/FORMATS.md has both files byte by byte.
  */
 #ifndef HALLANUPP_H
 #define HALLANUPP_H
@@ -13,6 +23,12 @@
 #ifdef __cplusplus
 extern "C" {
 #endif
+
+/* The version of this header: major times 1,000,000, plus minor times 1,000, plus patch, so 1.0.0. */
+#define HALLANUPP_VERSION 1000000
+
+/* The version of the library that is linked, reckoned the same way: a caller compares it with HALLANUPP_VERSION. */
+uint32_t hallanupp_version(void);
 
 /* What a verdict is about. */
 enum {
@@ -35,7 +51,8 @@ enum {
     HALLANUPP_WRONG_TICK = 8,
     HALLANUPP_NO_SUCH_BOOTH_OR_TASK = 9,
     HALLANUPP_WRONG_DEMAND = 10,
-    HALLANUPP_DOES_NOT_FIT = 11
+    HALLANUPP_DOES_NOT_FIT = 11,
+    HALLANUPP_INPUT_TOO_LONG = 12 /* only the desk's text says it, of more than 37,044 bytes of input */
 };
 
 typedef struct {
@@ -51,8 +68,8 @@ hallanupp_verdict hallanupp_table_verdict(const uint8_t *table, size_t table_len
 hallanupp_verdict hallanupp_files_verdict(const uint8_t *table, size_t table_len, const uint8_t *log, size_t log_len);
 
 /* What a session answers. For booth i, clocks[i] is its final own clock (so the length of its row) and worked[i] how
- * many wall ticks it worked; idle is how many no booth worked. Worked and idle ticks together are H. Behind the last
- * booth, and in a refusal everywhere, the numbers are 0.
+ * many wall ticks it worked; idle is how many no booth worked; wall_ticks is H, which worked and idle ticks make up.
+ * Behind the last booth, and in a refusal everywhere, the numbers are 0.
  */
 typedef struct {
     hallanupp_verdict verdict;
@@ -60,6 +77,7 @@ typedef struct {
     uint32_t clocks[8];
     uint32_t worked[8];
     uint32_t idle;
+    uint32_t wall_ticks;
 } hallanupp_session_answer;
 
 /* Plays a session. Checked in order: the table, the log, then the records (number 11 at 0): the wall record needs H

@@ -59,11 +59,13 @@ pub enum Number {
     WrongDemand = 10,
     /// A lent buffer or a number asked does not fit.
     DoesNotFit = 11,
+    /// More bytes of input than the desk reads, which only its text says.
+    InputTooLong = 12,
 }
 
 impl Number {
     /// All of them, in order.
-    pub const ALL: [Number; 11] = [
+    pub const ALL: [Number; 12] = [
         Number::BytesMissing,
         Number::WrongVersion,
         Number::BytesLeftOver,
@@ -75,6 +77,7 @@ impl Number {
         Number::NoSuchBoothOrTask,
         Number::WrongDemand,
         Number::DoesNotFit,
+        Number::InputTooLong,
     ];
 }
 

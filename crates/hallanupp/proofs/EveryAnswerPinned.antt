@@ -13,10 +13,12 @@ use Rattle.session.specs.SessionAnswered.{answered}
 use Rattle.text.specs.TextAnswered.{textLength, withText}
 use Rattle.hallanupp.specs.OneReply.{Lives, Call, Asks, Tells, Reply, Meets, Replies, OneReply}
 use Rattle.rules.specs.Files.{filesVerdict}
+use Rattle.hallanupp.specs.Version.{version}
 use Rattle.hallanupp.specs.VerdictInC.{tableVerdict, inC}
 use Rattle.hallanupp.specs.RowInC.{rowInC}
 use Rattle.hallanupp.specs.PanelInC.{panelInC}
 use Rattle.hallanupp.specs.SessionInC.{sessionInC}
+use Rattle.hallanupp.proofs.hallanupp_version as version-c
 use Rattle.hallanupp.proofs.hallanupp_table_verdict as table-c
 use Rattle.hallanupp.proofs.hallanupp_files_verdict as files-c
 use Rattle.hallanupp.proofs.sessions.hallanupp_session as session-c
@@ -26,6 +28,9 @@ use Rattle.hallanupp.proofs.panels.hallanupp_panel as panel-c
 use Rattle.hallanupp.proofs.texts.hallanupp_desk_text as desk-c
 
 -- ---- the reply of each, from the clauses that the source has
+
+pub version-reply : Replies version-c.ended version-c.Reads.Asked version-c.Reads.Learnt (λ κs a. record { answer = version; left = tt })
+version-reply = record { taken = λ κs a. tt; reply = λ κs a o p i. record { answer = p i; left = tt } }
 
 pub table-reply : Replies table-c.ended table-c.Reads.Asked table-c.Reads.Learnt (λ κs (table, _). record { answer = inC (tableVerdict (now table)); left = (tt, tt) })
 table-reply = record { taken = λ κs a. tt; reply = λ κs a o p i. record { answer = p i; left = (tt, tt) } }
@@ -64,6 +69,7 @@ desk-reply = record { taken = λ κs a. tt; reply = λ κs a o p i. record { ans
 -- ---- the statement
 
 pub record EveryAnswerPinned : Type 0 where
+  pub version : OneReply version-c.ended version-c.Reads.Asked version-c.Reads.Learnt
   pub table-verdict : OneReply table-c.ended table-c.Reads.Asked table-c.Reads.Learnt
   pub files-verdict : OneReply files-c.ended files-c.Reads.Asked files-c.Reads.Learnt
   pub session : OneReply session-c.ended session-c.Reads.Asked session-c.Reads.Learnt
@@ -79,6 +85,7 @@ only r = record { taken = r .taken; once = λ κs a o q m n. r .reply κs a o m 
 pub every-answer-pinned : EveryAnswerPinned
 every-answer-pinned =
     record {
+      version = only version-reply;
       table-verdict = only table-reply;
       files-verdict = only files-reply;
       session = only session-reply;

@@ -1,3 +1,4 @@
+pub mod Version
 pub mod VerdictInC
 pub mod RowInC
 pub mod PanelInC

@@ -2,6 +2,7 @@
 ghost use mathlib.Core.Path.{_≡_};
 ghost use Rattle.rules.specs.Files.{filesVerdict};
 ghost use Rattle.hallanupp.specs.VerdictInC.{tableVerdict, inC, refusedInC};
+ghost use Rattle.hallanupp.specs.Version.{version};
 use crate::parts::in_c;
 use base::Refusal;
 
@@ -9,6 +10,9 @@ mod panels;
 mod parts;
 mod sessions;
 mod texts;
+
+// The library's version, 1.0.0: major times 1,000,000, plus minor times 1,000, plus patch.
+const VERSION: u32 = 1000000;
 
 // What is refused: 0 nothing, 1 the booth table, 2 the arrival log, 3 the call itself; then number and place.
 #[repr(C)]
@@ -26,6 +30,13 @@ fn c_verdict(refused: u32, refusal: Refusal) -> CVerdict
         number: refusal.number,
         place: refusal.place as u64,
     }
+}
+
+#[no_mangle]
+pub extern "C" fn hallanupp_version() -> u32
+    ensures { λ r. ⌜ r ≡ version ⌝ }
+{
+    VERSION
 }
 
 #[no_mangle]

@@ -7,7 +7,7 @@ use crate::CVerdict;
 use crate::parts::in_c;
 use rules::BOOTHS_ALLOWED;
 
-// The verdict, the number of booths, each booth's final own clock and worked ticks, and the idle ticks; zeros behind the last booth.
+// The verdict, the number of booths, each booth's final own clock and worked ticks, the idle ticks and H; zeros behind the last booth.
 #[repr(C)]
 pub struct CSession {
     pub verdict: CVerdict,
@@ -15,6 +15,7 @@ pub struct CSession {
     pub clocks: [u32; BOOTHS_ALLOWED],
     pub worked: [u32; BOOTHS_ALLOWED],
     pub idle: u32,
+    pub wall_ticks: u32,
 }
 
 #[no_mangle]
@@ -39,5 +40,6 @@ pub extern "C" fn hallanupp_session(
         clocks,
         worked,
         idle: answer.idle,
+        wall_ticks: answer.horizon,
     }
 }

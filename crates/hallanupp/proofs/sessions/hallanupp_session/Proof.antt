@@ -25,7 +25,7 @@ returns : tie.Need-returns
 unfolding sessionInC
 returns c =
     let q = c .before .before .before .before .before .before .before .before .session in (
-      ap (λ v. record { verdict = v; booths = q .result .booths; clocks = q .result .clocks; worked = q .result .worked; idle = q .result .idle }) (c .before .before .in-c .ensures) ∙ ap sessionInC (q .ensures .0),
+      ap (λ v. record { verdict = v; booths = q .result .booths; clocks = q .result .clocks; worked = q .result .worked; idle = q .result .idle; «wall_ticks» = q .result .horizon }) (c .before .before .in-c .ensures) ∙ ap sessionInC (q .ensures .0),
       (q .ensures .1 .0, q .ensures .1 .1),
     )
 
