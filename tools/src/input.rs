@@ -41,29 +41,28 @@ pub fn read(name: &Path) -> Result<Vec<u8>, Failure> {
     let read = file.take(MOST_BYTES + 1).read_to_end(&mut bytes);
     let length = read.map_err(|error| not_read(name, &error))?;
     if length as u64 > MOST_BYTES {
-        let name = name.display();
-        return Err(Failure::Misused(format!(
-            "{name} is longer than any booth table or arrival log"
-        )));
+        let why = "this file is longer than any booth table or arrival log";
+        return Err(of_file(name, why));
     }
     Ok(bytes)
 }
 
+fn of_file(name: &Path, why: &str) -> Failure {
+    Failure::Misused(format!("{}: {why}", name.display()))
+}
+
 fn not_read(name: &Path, error: &Error) -> Failure {
-    let shown = name.display();
-    Failure::Misused(match error.kind() {
-        ErrorKind::NotFound => format!("there is no file {shown}"),
-        ErrorKind::IsADirectory => format!("{shown} is a folder, not a file"),
-        ErrorKind::PermissionDenied => format!("{shown} may not be read"),
-        _ => format!("{shown} cannot be read: {error}"),
-    })
+    match error.kind() {
+        ErrorKind::NotFound => of_file(name, "there is no such file"),
+        ErrorKind::IsADirectory => of_file(name, "this is a folder, not a file"),
+        _ => of_file(name, &format!("this file cannot be read: {error}")),
+    }
 }
 
 /// A file written whole.
 pub fn write(name: &Path, text: &str) -> Result<(), Failure> {
     let written = std::fs::write(name, text);
-    written
-        .map_err(|error| Failure::Misused(format!("{} cannot be written: {error}", name.display())))
+    written.map_err(|error| of_file(name, &format!("this file cannot be written: {error}")))
 }
 
 pub fn print(text: &str) -> Result<(), Failure> {
