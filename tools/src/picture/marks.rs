@@ -58,19 +58,10 @@ pub fn definitions(drawn: &Drawn) -> Svg {
     svg
 }
 
-/// Those that are played or arrive, lowest first.
+/// Those that arrive, lowest first: no other is ever played.
 pub fn tasks(drawn: &Drawn) -> BTreeSet<u8> {
-    let played = drawn
-        .booths
-        .iter()
-        .flat_map(|booth| &booth.turns)
-        .map(|turn| turn.task);
-    let arrived = drawn
-        .booths
-        .iter()
-        .flat_map(|booth| &booth.jobs)
-        .map(|job| job.arrival.task);
-    played.chain(arrived).collect()
+    let jobs = drawn.booths.iter().flat_map(|booth| &booth.jobs);
+    jobs.map(|job| job.arrival.task).collect()
 }
 
 fn pattern(task: u8, svg: &mut Svg) {
