@@ -12,10 +12,9 @@ use second::table::read_table;
 use second::ticks::{OwnTick, WallTick};
 
 use crate::answers::{
-    PanelRow, Row, SessionAnswer, Verdict, ARRIVAL_LOG, AT_CEILING, BELOW, BOOTH_TABLE, CALL,
-    NONE_YET, NOTHING, OVER,
+    PanelRow, Row, SessionAnswer, Verdict, ARRIVAL_LOG, AT_THE_CEILING, BELOW, BOOTH_TABLE, CALL,
+    NONE_YET, NOTHING, OVER, TEXT_ROOM,
 };
-use crate::boxed::TEXT_ROOM;
 
 fn verdict(refused: u32, refusal: Refusal) -> Verdict {
     Verdict {
@@ -60,8 +59,18 @@ pub fn session(table: &[u8], log: &[u8], wall: &mut [u8], own: &mut [u8]) -> Ses
         clocks: outcome.own_clocks.map(|u| u.0 as u32),
         worked: outcome.worked.map(|worked| worked as u32),
         idle: outcome.idle as u32,
-        wall_ticks: outcome.wall_ticks().0 as u32,
+        wall_ticks: match outcome.refused {
+            None => wall_ticks(table, log),
+            Some(_) => 0,
+        },
     }
+}
+
+/// H of files that are accepted.
+fn wall_ticks(table: &[u8], log: &[u8]) -> u32 {
+    let table = read_table(table).expect("an accepted table");
+    let log = read_log(log, &table).expect("an accepted log");
+    log.wall_ticks.0 as u32
 }
 
 /// A refusal of the call itself, unless one of the files it reads is refused.
@@ -100,7 +109,7 @@ pub fn panel(table: &[u8], wall: &[u8], booth: usize, t: usize) -> PanelRow {
     let (reading, share) = match shown.reading {
         Reading::NoneYet => (NONE_YET, shown.got),
         Reading::Below(share) => (BELOW, share),
-        Reading::AtCeiling(share) => (AT_CEILING, share),
+        Reading::AtCeiling(share) => (AT_THE_CEILING, share),
         Reading::Over(share) => (OVER, share),
     };
     // In C the reading's share is got, said once.

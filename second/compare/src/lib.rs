@@ -1,10 +1,8 @@
 //! The proved library beside the second program, which is the judge, and beside
 //! an optimised Rust program, which is what its speed is measured against.
-#![deny(unsafe_code)]
+#![forbid(unsafe_code)]
 
 pub mod answers;
-#[allow(unsafe_code)]
-pub mod boxed;
 pub mod fast;
 pub mod inputs;
 pub mod judge;

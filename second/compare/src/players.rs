@@ -1,7 +1,9 @@
 //! Who is held against the second program.
 
+use hallanupp::raw;
+
 use crate::answers::{PanelRow, SessionAnswer, Verdict};
-use crate::{boxed, fast};
+use crate::fast;
 
 pub struct Reader {
     pub name: &'static str,
@@ -12,8 +14,8 @@ pub struct Reader {
 pub const READERS: &[Reader] = &[
     Reader {
         name: "the proved library",
-        table_verdict: boxed::table_verdict,
-        files_verdict: boxed::files_verdict,
+        table_verdict: raw::table_verdict,
+        files_verdict: raw::files_verdict,
     },
     Reader {
         name: "the fast program",
@@ -39,9 +41,9 @@ pub struct Player {
 pub const PLAYERS: &[Player] = &[
     Player {
         name: "the proved library",
-        session: boxed::session,
-        solo_part: boxed::solo_part,
-        panel: boxed::panel,
+        session: raw::session,
+        solo_part: raw::solo_part,
+        panel: raw::panel,
     },
     Player {
         name: "the fast program",

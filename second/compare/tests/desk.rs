@@ -4,11 +4,11 @@
 use std::collections::BTreeMap;
 use std::str::from_utf8;
 
-use compare::answers::first_difference;
-use compare::boxed::TEXT_ROOM;
+use compare::answers::{first_difference, TEXT_ROOM};
 use compare::inputs::{audition, full_house, full_log, kinds_of_input, lent_record, Session};
+use compare::judge;
 use compare::tally::Tally;
-use compare::{boxed, judge};
+use hallanupp::raw;
 use second::arrivals::Log;
 use second::random::{first_seed, Random};
 use second::table::{Line, Table};
@@ -18,7 +18,7 @@ use second::ticks::WallTick;
 fn compare(kind: &str, input: &[u8], lent: &[u8]) -> Vec<u8> {
     let (mut after, mut text) = (lent.to_vec(), lent.to_vec());
     let expected = judge::desk_text(input, &mut after);
-    let said = boxed::desk_text(input, &mut text);
+    let said = raw::desk_text(input, &mut text);
     let what = || format!("{kind}, {} bytes lent: {input:02X?}", lent.len());
     assert_eq!(said, expected, "{}", what());
     assert_eq!(first_difference(&text, &after), None, "{}", what());

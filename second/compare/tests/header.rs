@@ -1,6 +1,6 @@
 //! What the C header says of the library that is linked.
 
-use compare::boxed;
+use hallanupp::raw;
 
 const HEADER: &str = include_str!("../../../include/hallanupp.h");
 
@@ -14,10 +14,10 @@ fn defined(name: &str) -> u32 {
 
 #[test]
 fn version_of_the_library() {
-    assert_eq!(boxed::version(), defined("HALLANUPP_VERSION"));
+    assert_eq!(raw::version(), defined("HALLANUPP_VERSION"));
 }
 
 #[test]
 fn room_of_the_desks_text() {
-    assert_eq!(boxed::TEXT_ROOM, defined("HALLANUPP_TEXT_ROOM") as usize);
+    assert_eq!(raw::TEXT_ROOM, defined("HALLANUPP_TEXT_ROOM") as usize);
 }

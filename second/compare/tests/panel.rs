@@ -1,7 +1,7 @@
 //! Panel rows: the verdict, both shares bit for bit and the reading are those of
 //! the second program, also for records that no session wrote.
 
-use compare::answers::{PanelRow, Verdict, BOOTH_TABLE, CALL, NOTHING};
+use compare::answers::{PanelRow, Verdict, BOOTH_TABLE, CALL, NOTHING, UNFIT};
 use compare::inputs::{audition, damaged_files, largest_sessions, lent_record, randoms, Session};
 use compare::judge;
 use compare::players::PLAYERS;
@@ -118,7 +118,7 @@ fn rows_of_the_longest_record() {
         let wall = vec![byte; 1_000_002];
         for t in [999_999, 1_000_000, 1_000_001, 1_000_002, 1_000_003] {
             let shown = compare(&table, &wall, 0, t);
-            let refused = shown.verdict == Verdict::UNFIT;
+            let refused = shown.verdict == UNFIT;
             assert_eq!(refused, t > 1_000_000, "t {t}");
         }
     }

@@ -2,15 +2,15 @@
 //! record is what the second program says.
 
 use compare::answers::{Row, CALL, NOTHING};
-use compare::boxed;
 use compare::inputs::{randoms, Session};
 use compare::judge;
 use compare::tally::Tally;
+use hallanupp::raw;
 use second::random::{first_seed, Random};
 
 fn compare(own: &[u8], h: usize, booth: usize, count: usize) -> Row {
     let expected = judge::row_back(own, h, booth, count);
-    let said = boxed::row_back(own, h, booth, count);
+    let said = raw::row_back(own, h, booth, count);
     let lent = own.len();
     assert_eq!(
         said, expected,

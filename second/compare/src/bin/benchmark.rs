@@ -61,7 +61,8 @@ mod readers {
     use compare::inputs::{full_house, full_log};
     use compare::runs::Runs;
     use compare::stopwatch::in_turn;
-    use compare::{boxed, fast, judge};
+    use compare::{fast, judge};
+    use hallanupp::raw;
     use second::generate::{log_bytes, random_table, table_bytes, WHOLE_EVENING};
     use second::random::{first_seed, Random};
 
@@ -87,7 +88,7 @@ mod readers {
     fn table(work: &str, table: Vec<u8>) -> Line {
         assert_eq!(judge::table_verdict(&table), Verdict::ACCEPTED);
         let measure = move || {
-            let library = || boxed::table_verdict(black_box(&table));
+            let library = || raw::table_verdict(black_box(&table));
             let rust = || fast::table_verdict(black_box(&table));
             in_turn(effort(2_000), library, rust)
         };
@@ -101,7 +102,7 @@ mod readers {
     fn full(table: Vec<u8>, log: Vec<u8>) -> Line {
         assert_eq!(judge::files_verdict(&table, &log), Verdict::ACCEPTED);
         let measure = move || {
-            let library = || boxed::files_verdict(black_box(&table), black_box(&log));
+            let library = || raw::files_verdict(black_box(&table), black_box(&log));
             let rust = || fast::files_verdict(black_box(&table), black_box(&log));
             in_turn(effort(200), library, rust)
         };
@@ -121,7 +122,8 @@ mod whole {
     use compare::runs::Runs;
     use compare::stopwatch::in_turn;
     use compare::timed::session_times;
-    use compare::{boxed, fast, judge};
+    use compare::{fast, judge};
+    use hallanupp::raw;
 
     use super::{effort, Line};
 
@@ -132,7 +134,7 @@ mod whole {
             work: format!("session, {name}"),
             aim: Some(1.5),
             runs: Runs::new(move || {
-                session_times(effort(1), boxed::session, fast::session, &session)
+                session_times(effort(1), raw::session, fast::session, &session)
             }),
         })
     }
@@ -148,7 +150,7 @@ mod whole {
         let (mut part, mut rust_part) = (vec![0; n], vec![0; n]);
         let measure = move || {
             let (table, log) = (&files.table, &files.log);
-            let library = || boxed::solo_part(table, log, 0, n, black_box(&mut part));
+            let library = || raw::solo_part(table, log, 0, n, black_box(&mut part));
             let rust = || fast::solo_part(table, log, 0, n, black_box(&mut rust_part));
             in_turn(effort(5), library, rust)
         };
@@ -164,7 +166,7 @@ mod whole {
         let (mut wall, mut own) = (vec![0; 1_000_000], vec![0; 8_000_000]);
         judge::session(&files.table, &files.log, &mut wall, &mut own);
         let measure = move || {
-            let library = || boxed::panel(&files.table, black_box(&wall), 7, 1_000_000);
+            let library = || raw::panel(&files.table, black_box(&wall), 7, 1_000_000);
             let rust = || fast::panel(&files.table, black_box(&wall), 7, 1_000_000);
             in_turn(effort(5), library, rust)
         };

@@ -36,12 +36,13 @@ fn tables() -> [Table; 5] {
 
 /// Tables of sessions that grow.
 mod grown {
+    use compare::fast;
     use compare::inputs::Session;
     use compare::runs::Runs;
     use compare::sheet::{count, nanoseconds, print_head, print_row, ratio, Range};
     use compare::stopwatch::Effort;
     use compare::timed::session_times;
-    use compare::{boxed, fast};
+    use hallanupp::raw;
 
     pub struct Table {
         heading: &'static str,
@@ -64,7 +65,7 @@ mod grown {
                 rounds: 11,
                 calls: 1_000_000 / h,
             };
-            let measure = move || session_times(effort, boxed::session, fast::session, &session);
+            let measure = move || session_times(effort, raw::session, fast::session, &session);
             Line {
                 size,
                 wall_ticks: f64::from(h),
@@ -124,7 +125,8 @@ mod places {
     use compare::runs::Runs;
     use compare::sheet::{print_head, print_row, ratio};
     use compare::stopwatch::{in_turn, Effort};
-    use compare::{boxed, fast, judge};
+    use compare::{fast, judge};
+    use hallanupp::raw;
     use second::generate::{log_bytes, table_bytes};
 
     /// Each with the offset at which its log begins.
@@ -144,7 +146,7 @@ mod places {
         };
         Runs::new(move || {
             let log = placed.bytes();
-            let library = || boxed::files_verdict(black_box(&table), black_box(log));
+            let library = || raw::files_verdict(black_box(&table), black_box(log));
             let rust = || fast::files_verdict(black_box(&table), black_box(log));
             in_turn(effort, library, rust)
         })

@@ -5,19 +5,22 @@ use std::cmp::Ordering;
 use super::admitted_table;
 use super::arrivals::MOST_WALL_TICKS;
 use super::table::Promise;
-use crate::answers::{PanelRow, Verdict, AT_CEILING, BELOW, NONE_YET, OVER};
+use crate::answers::{
+    refused_panel_row, PanelRow, Verdict, ABSENT_BOOTH, AT_THE_CEILING, BELOW, NONE_YET, OVER,
+    UNFIT,
+};
 
 /// The panel row of a booth after `t` ticks of a wall record.
 pub fn panel(table: &[u8], wall: &[u8], booth: usize, t: usize) -> PanelRow {
     let table = match admitted_table(table) {
         Ok(table) => table,
-        Err(verdict) => return PanelRow::refused(verdict),
+        Err(verdict) => return refused_panel_row(verdict),
     };
     if booth >= table.booths {
-        return PanelRow::refused(Verdict::ABSENT_BOOTH);
+        return refused_panel_row(ABSENT_BOOTH);
     }
     if t > wall.len() || t > MOST_WALL_TICKS as usize {
-        return PanelRow::refused(Verdict::UNFIT);
+        return refused_panel_row(UNFIT);
     }
     let worked = times_in(&wall[..t], booth as u8);
     panel_row(&table.promises[booth], worked, t as u32)
@@ -51,7 +54,7 @@ fn panel_row(promise: &Promise, worked: u32, t: u32) -> PanelRow {
     let reading = match worked.cmp(&promise.due(t)) {
         _ if t == 0 => NONE_YET,
         Ordering::Less => BELOW,
-        Ordering::Equal => AT_CEILING,
+        Ordering::Equal => AT_THE_CEILING,
         Ordering::Greater => OVER,
     };
     PanelRow {

@@ -6,17 +6,17 @@ use super::accepted_files;
 use super::booth::Booth;
 use super::stage::Stage;
 use super::waiting::Waiting;
-use crate::answers::{SessionAnswer, Verdict};
+use crate::answers::{refused_session, SessionAnswer, Verdict, UNFIT};
 
 /// A whole session into the lent wall record and own record.
 pub fn session(table: &[u8], log: &[u8], wall: &mut [u8], own: &mut [u8]) -> SessionAnswer {
     let (table, log) = match accepted_files(table, log) {
         Ok(read) => read,
-        Err(verdict) => return SessionAnswer::refused(verdict),
+        Err(verdict) => return refused_session(verdict),
     };
     let h = log.wall_ticks as usize;
     if wall.len() < h || own.len() < h * table.booths {
-        return SessionAnswer::refused(Verdict::UNFIT);
+        return refused_session(UNFIT);
     }
     let waiting = Waiting::new(&table, &log);
     let mut booths: [Booth; 8] = from_fn(|number| {

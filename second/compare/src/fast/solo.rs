@@ -4,7 +4,7 @@ use super::accepted_files;
 use super::booth::NOBODY;
 use super::demand::Demand;
 use super::waiting::{own_arrivals, Arrival};
-use crate::answers::Verdict;
+use crate::answers::{Verdict, ABSENT_BOOTH, UNFIT};
 
 /// The first `n` own ticks of a booth's solo part into the lent buffer.
 pub fn solo_part(table: &[u8], log: &[u8], booth: usize, n: usize, part: &mut [u8]) -> Verdict {
@@ -13,11 +13,11 @@ pub fn solo_part(table: &[u8], log: &[u8], booth: usize, n: usize, part: &mut [u
         Err(verdict) => return verdict,
     };
     if booth >= table.booths {
-        return Verdict::ABSENT_BOOTH;
+        return ABSENT_BOOTH;
     }
     let promise = &table.promises[booth];
     if n > promise.due(log.wall_ticks) as usize || n > part.len() {
-        return Verdict::UNFIT;
+        return UNFIT;
     }
     write_part(own_arrivals(&log, booth, promise), &mut part[..n]);
     Verdict::ACCEPTED
