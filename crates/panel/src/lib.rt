@@ -85,12 +85,12 @@ fn worked_in(part: &[u8], booth: u8) -> u32
     ensures { λ r. ⌜ r ≡ session.count booth (now (part .entry)) ⌝ }
 {
     let mut lanes = [0u8; LANES];
-    let mut at: usize = 0;
-    while LANES <= part.len() - at {
-        count_block(&mut lanes, &part[at..at + LANES], booth);
-        at += LANES;
+    let mut start: usize = 0;
+    while LANES <= part.len() - start {
+        count_block(&mut lanes, &part[start..start + LANES], booth);
+        start += LANES;
     }
-    count_block(&mut lanes, &part[at..], booth);
+    count_block(&mut lanes, &part[start..], booth);
     add_up(&lanes)
 }
 

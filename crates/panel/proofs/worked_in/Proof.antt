@@ -12,10 +12,10 @@ use Rattle.panel.proofs.worked_in.Statement.{statement}
 use Rattle.panel.proofs.worked_in.Tie as tie
 
 abbrev Inv-loop : tie.InvT-loop
-Inv-loop part booth lanes₀ at₀ lanes at = (at ≤ length part) × Counting booth part at lanes
+Inv-loop part booth lanes₀ start₀ lanes start = (start ≤ length part) × Counting booth part start lanes
 
 abbrev μ-loop : tie.MeasureT-loop
-μ-loop part booth lanes₀ at₀ lanes at = length part - at
+μ-loop part booth lanes₀ start₀ lanes start = length part - start
 
 loop-holds : tie.Need-loop-holds Inv-loop μ-loop
 loop-holds c = (omega arith, none-yet (c .before .args .booth) (c .before .args .part .now))
@@ -38,8 +38,8 @@ part-count-block-end c = omega arith
 count-block-requires : tie.Need-count-block-requires Inv-loop μ-loop
 count-block-requires c κs = (search needs, lanes-below _ _ (c .before .before .before .loop .inv .1) (omega (arith, c .before .before .before .before .before .pre)))
 
-add-at : tie.Need-add-at Inv-loop μ-loop
-add-at c = omega arith
+add-start : tie.Need-add-start Inv-loop μ-loop
+add-start c = omega arith
 
 loop-less : tie.Need-loop-less Inv-loop μ-loop
 loop-less c = omega arith
@@ -86,7 +86,7 @@ worked-in-spec =
     part-count-block-start
     part-count-block-end
     count-block-requires
-    add-at
+    add-start
     loop-less
     loop-again
     sub-count-block-2
