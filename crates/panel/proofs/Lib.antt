@@ -1,2 +1,3 @@
 pub mod ExactShare
 pub mod Cases
+pub mod Lanes

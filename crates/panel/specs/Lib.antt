@@ -1,2 +1,3 @@
 pub mod Shown
 pub mod Exact
+pub mod Lanes

@@ -1,6 +1,6 @@
 // The panel: a booth's two shares and their reading.
 ghost use mathlib.Core.Path.{_≡_};
-ghost use Prim.Native.Nat.{_≤_, _<_};
+ghost use Prim.Native.Nat.{_+_, _≤_, _<_};
 ghost use lib.ListN.{length, take};
 ghost use Rattle.rules.specs.declared.Refused.the-variants.{TheCall};
 ghost use Rattle.base.specs.Refusals.{refusal};
@@ -9,6 +9,7 @@ ghost use Rattle.rules.specs.InRange.{Sound};
 ghost use Rattle.rules.specs.Session as session;
 ghost use Rattle.rules.specs.Panel as page;
 ghost use Rattle.panel.specs.Exact.{ExactAtPowers};
+ghost use Rattle.panel.specs.Lanes.{sum, EachBelow, OneMore};
 ghost use Rattle.panel.specs.Shown.{shownReading, shownRow};
 use base::Refusal;
 use rules::LONGEST_SESSION;
@@ -41,25 +42,56 @@ fn share(part: u32, whole: u32) -> f64
     part as f64 / whole as f64
 }
 
-// So many wall ticks are counted at a time: a byte can count them, and they are whole groups of the 32 that the compiler
-// takes in one turn.
-const BLOCK: usize = 224;
+// Each tick of a block is counted in a lane of its own, a byte wide: the compiler counts sixteen lanes in one register, and
+// keeps all of them in registers from block to block.
+const LANES: usize = 128;
+// So many wall ticks are counted before the lanes are added up: a byte counts 254 blocks and a rest.
+const PART: usize = 254 * LANES;
 
-// How often the booth stands in a part of the wall record. The count is as narrow as the bytes, so that the compiler
-// compares and counts sixteen of them in one register.
-fn worked_in(part: &[u8], booth: u8) -> u8
-    requires { ⌜ length (now part) ≤ 255 ⌝ }
-    ensures { λ r. ⌜ r ≡ session.count booth (now (part .entry)) ⌝ }
+// Counts where the booth stands in a block, each tick in the lane of its place.
+fn count_block(lanes: &mut [u8; LANES], block: &[u8], booth: u8)
+    requires { ⌜ (length (now block) ≤ 128) × EachBelow 255 (now lanes) ⌝ }
+    ensures sum { λ r. ⌜ sum (now (lanes .exit)) ≡ sum (now (lanes .entry)) + session.count booth (now (block .entry)) ⌝ }
+    ensures each { λ r. ⌜ OneMore (now (lanes .entry)) (now (lanes .exit)) ⌝ }
 {
-    let mut worked: u8 = 0;
     let mut i: usize = 0;
-    while i < part.len() {
-        if part[i] == booth {
-            worked += 1;
+    while i < block.len() {
+        let mut lane = lanes[i];
+        if block[i] == booth {
+            lane += 1;
         }
+        lanes[i] = lane;
         i += 1;
     }
-    worked
+}
+
+// The sum is as narrow as 128 lanes allow, so that the compiler adds eight of them at once.
+fn add_up(lanes: &[u8; LANES]) -> u32
+    requires { ⌜ EachBelow 256 (now lanes) ⌝ }
+    ensures { λ r. ⌜ r ≡ sum (now (lanes .entry)) ⌝ }
+{
+    let mut worked: u16 = 0;
+    let mut i: usize = 0;
+    while i < LANES {
+        worked += lanes[i] as u16;
+        i += 1;
+    }
+    worked as u32
+}
+
+// How often the booth stands in a part of the wall record, whole blocks first.
+fn worked_in(part: &[u8], booth: u8) -> u32
+    requires { ⌜ length (now part) ≤ 32512 ⌝ }
+    ensures { λ r. ⌜ r ≡ session.count booth (now (part .entry)) ⌝ }
+{
+    let mut lanes = [0u8; LANES];
+    let mut start: usize = 0;
+    while LANES <= part.len() - start {
+        count_block(&mut lanes, &part[start..start + LANES], booth);
+        start += LANES;
+    }
+    count_block(&mut lanes, &part[start..], booth);
+    add_up(&lanes)
 }
 
 // How often the booth stands in the first `t` bytes.
@@ -75,11 +107,11 @@ fn worked_ticks(wall: &[u8], booth: usize, t: u32) -> u32
     let end = t as usize;
     let mut worked: u32 = 0;
     let mut at: usize = 0;
-    while BLOCK <= end - at {
-        worked += base::wide(worked_in(&wall[at..at + BLOCK], number));
-        at += BLOCK;
+    while PART <= end - at {
+        worked += worked_in(&wall[at..at + PART], number);
+        at += PART;
     }
-    worked + base::wide(worked_in(&wall[at..end], number))
+    worked + worked_in(&wall[at..end], number)
 }
 
 fn reading_of(worked: u32, due: u32, got: f64) -> Reading

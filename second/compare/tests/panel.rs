@@ -125,11 +125,11 @@ fn rows_of_the_longest_record() {
 }
 
 /// Ticks up to 1,000,000: all the first, those about the multiples of 255 blocks
-/// of 64 bytes, at which a count of bytes may run over, and random ones.
+/// of 64 bytes and of 254 blocks of 128, at which a count of bytes may run over,
+/// and random ones.
 fn ticks_of_long_records(random: &mut Random) -> Vec<usize> {
     let mut ticks: Vec<usize> = (0..=1_500).collect();
-    for blocks in 1..=3 {
-        let end = blocks * 255 * 64;
+    for end in (1..=3).flat_map(|times| [times * 255 * 64, times * 254 * 128]) {
         ticks.extend(end - 66..=end + 66);
     }
     ticks.extend((0..20).map(|_| random.below(1_000_001)));

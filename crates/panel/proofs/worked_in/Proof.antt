@@ -1,54 +1,77 @@
--- `panel::worked_in` meets its contract. The loop's invariant: what is counted is how often the booth stands in the bytes passed.
--- The measure is the bytes that are left. Assumes nothing.
-use mathlib.Core.Path.{_≡_, sym, ap, _∙_}
-use mathlib.Core.Logic.{⊎-elim}
-use Prim.Native.Nat.{_+_, _-_, _≤_, _<_}
+-- `panel::worked_in` meets its contract. The loop's invariant: the blocks passed are counted, at most once in each lane. The measure is the bytes
+-- that are left. Assumes nothing.
+use mathlib.Core.Path.{ap, _∙_}
+use Prim.Native.Nat.{_-_, _≤_}
 use native.Mathlib.Omega.{arith}
-use lib.ListN.{length, take}
+use borrow.Author.Needs.{needs}
+use lib.ListN.{length}
 use lib.Seq.{take-all}
 use Rattle.rules.specs.Session.{count}
-use Rattle.rules.proofs.Counting.{count-nil}
-use Rattle.panel.proofs.Cases.{count-more, count-same}
+use Rattle.panel.proofs.Lanes.{Counting, none-yet, lanes-below, still-below, counted-to, next-block}
 use Rattle.panel.proofs.worked_in.Statement.{statement}
 use Rattle.panel.proofs.worked_in.Tie as tie
 
 abbrev Inv-loop : tie.InvT-loop
-Inv-loop part booth worked₀ i₀ worked i = (i ≤ length part) × (worked ≤ i) × (worked ≡ count booth (take i part))
+Inv-loop part booth lanes₀ start₀ lanes start = (start ≤ length part) × Counting booth part start lanes
 
 abbrev μ-loop : tie.MeasureT-loop
-μ-loop part booth worked₀ i₀ worked i = length part - i
+μ-loop part booth lanes₀ start₀ lanes start = length part - start
 
 loop-holds : tie.Need-loop-holds Inv-loop μ-loop
-loop-holds c = (omega arith, omega arith, sym (count-nil (c .args .booth)))
+loop-holds c = (omega arith, none-yet (c .before .args .booth) (c .before .args .part .now))
 
-shared-slice-read-if1 : tie.Need-shared-slice-read-if1 Inv-loop μ-loop
-shared-slice-read-if1 c = omega arith
+sub-loop : tie.Need-sub-loop Inv-loop μ-loop
+sub-loop c = omega arith
 
-add-worked : tie.Need-add-worked Inv-loop μ-loop
-add-worked c = omega arith
+add-count-block : tie.Need-add-count-block Inv-loop μ-loop
+add-count-block c = omega arith
 
-add-i : tie.Need-add-i Inv-loop μ-loop
-add-i c = omega arith
+sub-count-block : tie.Need-sub-count-block Inv-loop μ-loop
+sub-count-block c = omega arith
+
+part-count-block-start : tie.Need-part-count-block-start Inv-loop μ-loop
+part-count-block-start c = omega arith
+
+part-count-block-end : tie.Need-part-count-block-end Inv-loop μ-loop
+part-count-block-end c = omega arith
+
+count-block-requires : tie.Need-count-block-requires Inv-loop μ-loop
+count-block-requires c κs = (search needs, lanes-below _ _ (c .before .before .before .loop .inv .1) (omega (arith, c .before .before .before .before .before .pre)))
+
+add-start : tie.Need-add-start Inv-loop μ-loop
+add-start c = omega arith
 
 loop-less : tie.Need-loop-less Inv-loop μ-loop
 loop-less c = omega arith
 
 loop-again : tie.Need-loop-again Inv-loop μ-loop
 loop-again c =
-    let a = c .before .before .before .before .args in
-    let i = c .before .before .before .loop .i in
-    let inside : i < length (a .part .now) = omega arith in
-    let inv = c .before .before .before .loop .inv .2 in
-    ⊎-elim
-    (λ w. (omega arith, omega arith, w .1 ∙ ap (λ n. n + 1) inv ∙ sym (count-more (a .booth) (a .part .now) i inside (w .0 .taken))))
-    (λ w. (omega arith, omega arith, w .1 ∙ inv ∙ sym (count-same (a .booth) (a .part .now) i inside (w .0 .left))))
-    (c .if1 .came)
+    let q = c .count-block .ensures in
+    (omega arith, next-block _ _ (c .before .before .before .before .loop .inv .1) (c .count-block .last .0) (q .1) _ (omega arith) (q .0) (omega arith))
+
+sub-count-block-2 : tie.Need-sub-count-block-2 Inv-loop μ-loop
+sub-count-block-2 c = omega arith
+
+part-count-block-start-2 : tie.Need-part-count-block-start-2 Inv-loop μ-loop
+part-count-block-start-2 c = omega arith
+
+part-count-block-end-2 : tie.Need-part-count-block-end-2 Inv-loop μ-loop
+part-count-block-end-2 c = omega arith
+
+count-block-requires-2 : tie.Need-count-block-requires-2 Inv-loop μ-loop
+count-block-requires-2 c κs = (search needs, lanes-below _ _ (c .before .before .before .loop .inv .1) (omega (arith, c .before .before .before .before .before .pre)))
+
+add-up-requires : tie.Need-add-up-requires Inv-loop μ-loop
+add-up-requires c κs =
+    still-below _ _ (c .before .before .before .before .before .loop .inv .1) (c .before .count-block2 .last .0) (c .before .count-block2 .ensures .1) (omega (arith, c .before .before .before .before .before .before .before .pre))
 
 returns : tie.Need-returns Inv-loop μ-loop
 returns c =
-    let a = c .before .before .args in
-    let all : length (a .part .now) ≤ c .before .loop .i = omega arith in
-    c .before .loop .inv .2 ∙ ap (count (a .booth)) (take-all (c .before .loop .i) (a .part .now) all)
+    let q = c .before .before .count-block2 .ensures in
+    let part = c .before .before .before .before .before .before .before .before .args .part .now in
+    c .add-up .ensures
+    ∙ counted-to _ _ (c .before .before .before .before .before .before .loop .inv .1) (c .before .before .count-block2 .last .0) (q .1) (length part) (omega arith) (q .0)
+    ∙ ap (count _) (take-all (length part) part (omega arith))
 
 pub worked-in-spec : {M : Type 1} → statement M
 worked-in-spec =
@@ -57,9 +80,18 @@ worked-in-spec =
     Inv-loop
     μ-loop
     loop-holds
-    shared-slice-read-if1
-    add-worked
-    add-i
+    sub-loop
+    add-count-block
+    sub-count-block
+    part-count-block-start
+    part-count-block-end
+    count-block-requires
+    add-start
     loop-less
     loop-again
+    sub-count-block-2
+    part-count-block-start-2
+    part-count-block-end-2
+    count-block-requires-2
+    add-up-requires
     returns)

@@ -1,6 +1,6 @@
 -- `panel::worked_ticks` meets its contract. The loop's invariant: what is counted is how often the booth stands in the bytes passed.
 -- The measure is the bytes that are left. Assumes nothing.
-use mathlib.Core.Path.{_≡_, sym, _∙_}
+use mathlib.Core.Path.{_≡_, sym}
 use Prim.Native.Nat.{_+_, _-_, _≤_}
 use native.Mathlib.Omega.{arith}
 use borrow.Author.Needs.{needs}
@@ -46,11 +46,8 @@ part-worked-in-end c = omega arith
 worked-in-requires : tie.Need-worked-in-requires Inv-loop μ-loop
 worked-in-requires c κs = search needs
 
-wide-requires : tie.Need-wide-requires Inv-loop μ-loop
-wide-requires c κs = tt
-
 add-worked : tie.Need-add-worked Inv-loop μ-loop
-add-worked c = omega (arith, count-within _ _ (c .wide .ensures .0 ∙ c .before .worked-in .ensures))
+add-worked c = omega (arith, count-within _ _ (c .worked-in .ensures))
 
 add-at : tie.Need-add-at Inv-loop μ-loop
 add-at c = omega arith
@@ -60,9 +57,9 @@ loop-less c = omega arith
 
 loop-again : tie.Need-loop-again Inv-loop μ-loop
 loop-again c =
-    let at = c .before .before .before .before .loop .at in
-    let here = c .wide .ensures .0 ∙ c .before .worked-in .ensures in
-    (omega arith, omega (arith, count-within _ _ here), count-part _ _ at (at + 224) (c .before .before .before .before .loop .inv .2) here (omega arith))
+    let at = c .before .before .before .loop .at in
+    let here = c .worked-in .ensures in
+    (omega arith, omega (arith, count-within _ _ here), count-part _ _ at (at + 32512) (c .before .before .before .loop .inv .2) here (omega arith))
 
 sub-worked-in-2 : tie.Need-sub-worked-in-2 Inv-loop μ-loop
 sub-worked-in-2 c = omega arith
@@ -76,16 +73,13 @@ part-worked-in-end-2 c = omega arith
 worked-in-requires-2 : tie.Need-worked-in-requires-2 Inv-loop μ-loop
 worked-in-requires-2 c κs = search needs
 
-wide-requires-2 : tie.Need-wide-requires-2 Inv-loop μ-loop
-wide-requires-2 c κs = tt
-
 add-result : tie.Need-add-result Inv-loop μ-loop
-add-result c = omega (arith, count-within _ _ (c .wide2 .ensures .0 ∙ c .before .worked-in2 .ensures))
+add-result c = omega (arith, count-within _ _ (c .worked-in2 .ensures))
 
 returns-2 : tie.Need-returns-2 Inv-loop μ-loop
 returns-2 c =
-    let t = c .before .before .before .before .before .before .before .args .t in
-    count-part _ _ _ t (c .before .before .before .before .loop .inv .2) (c .wide2 .ensures .0 ∙ c .before .worked-in2 .ensures) (omega arith)
+    let t = c .before .before .before .before .before .before .args .t in
+    count-part _ _ _ t (c .before .before .before .loop .inv .2) (c .worked-in2 .ensures) (omega arith)
 
 pub worked-ticks-spec : {M : Type 1} → statement M
 worked-ticks-spec =
@@ -102,7 +96,6 @@ worked-ticks-spec =
     part-worked-in-start
     part-worked-in-end
     worked-in-requires
-    wide-requires
     add-worked
     add-at
     loop-less
@@ -111,6 +104,5 @@ worked-ticks-spec =
     part-worked-in-start-2
     part-worked-in-end-2
     worked-in-requires-2
-    wide-requires-2
     add-result
     returns-2)
