@@ -168,7 +168,7 @@ mod whole {
         let measure = move || {
             let library = || raw::panel(&files.table, black_box(&wall), 7, 1_000_000);
             let rust = || fast::panel(&files.table, black_box(&wall), 7, 1_000_000);
-            in_turn(effort(5), library, rust)
+            in_turn(effort(50), library, rust)
         };
         Line {
             work: format!("panel of booth 7, {name}"),
