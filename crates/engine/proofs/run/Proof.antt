@@ -45,7 +45,7 @@ woken : (c : Turn) (e : ReadyFor (start c))
 woken c e = going-on (c .before .before .before .loop .inv .2 e) (c .next-awake .ensures)
 
 -- what the needs want to know of a turn: booth i, wall tick t
-record Known (n h t i sung : ℕ) (wall own : List ℕ) : Type 0 where
+record Known (n h t i sung : ℕ) (wall : List ℕ) : Type 0 where
   within : i ≤ n
   few : n ≤ 8
   early : t < h
@@ -53,7 +53,7 @@ record Known (n h t i sung : ℕ) (wall own : List ℕ) : Type 0 where
   sung-early : sung ≤ t
   wall-room : h ≤ length wall
 
-known : (c : Turn) → Known (start c .args .n) (start c .args .h) (c .before .before .before .loop .t) (c .next-awake .result) (c .before .before .before .loop .sung) (c .before .before .before .loop .wall) (c .before .before .before .loop .own)
+known : (c : Turn) → Known (start c .args .n) (start c .args .h) (c .before .before .before .loop .t) (c .next-awake .result) (c .before .before .before .loop .sung) (c .before .before .before .loop .wall)
 known c =
     let g = woken c (start c .pre) in
     record {
