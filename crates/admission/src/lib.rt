@@ -22,13 +22,10 @@ pub struct Promises {
 }
 
 fn rounded_up(n: u32, m: u32) -> u32
-    requires { ⌜ (n ≤ 10000) × (0 < m) × (m ≤ 10000) ⌝ }
+    requires { ⌜ (0 < n) × (n ≤ 10000) × (0 < m) × (m ≤ 10000) ⌝ }
     ensures { λ r. ⌜ (r ≡ admission.roundedUp n m) × (r ≤ 20000) ⌝ }
 {
     // Most tables are asked within their periods, where nothing has to be divided.
-    if n == 0 {
-        return 0;
-    }
     if n <= m {
         return 1;
     }
@@ -42,7 +39,7 @@ fn asked_above(
     i: usize,
     r: u32,
 ) -> u32
-    requires { ⌜ FitPromises (now periods) (now allowances) i × (r ≤ 10000) ⌝ }
+    requires { ⌜ FitPromises (now periods) (now allowances) i × (0 < r) × (r ≤ 10000) ⌝ }
     ensures { λ a. ⌜ (a ≡ admission.askedAbove (take i (promised (now (periods .entry)) (now (allowances .entry)))) r) × (a ≤ 1600000000) ⌝ }
 {
     let mut asked: u32 = 0;
@@ -55,17 +52,21 @@ fn asked_above(
 }
 
 // The response test: some whole R from 1 to T has room for the booth's B and what the booths before it ask.
+// Each of those asks its B at least once, so no R below all of these can pass; and where an R is too small, none below the
+// amount it asked for passes, since what is asked never falls as R grows.
 fn passes(periods: &[u32; BOOTHS_ALLOWED], allowances: &[u32; BOOTHS_ALLOWED], i: usize) -> bool
     requires { ⌜ FitPromises (now periods) (now allowances) (i + 1) ⌝ }
     ensures { λ r. ⌜ r ≡ admission.passes (take i (promised (now (periods .entry)) (now (allowances .entry)))) (getD (promised (now (periods .entry)) (now (allowances .entry))) i no-line) ⌝ }
 {
+    let period = periods[i];
     let allowance = allowances[i];
-    let mut r = periods[i];
-    while 0 < r {
-        if allowance + asked_above(periods, allowances, i, r) <= r {
+    let mut r = allowance + asked_above(periods, allowances, i, 1);
+    while r <= period {
+        let asked = allowance + asked_above(periods, allowances, i, r);
+        if asked <= r {
             return true;
         }
-        r -= 1;
+        r = asked;
     }
     false
 }

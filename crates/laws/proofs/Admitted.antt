@@ -44,13 +44,13 @@ finds (suc n) test R a b c = go (test (suc n)) refl (λ k. finds n test R a k c)
         smaller (yes e) = absurd (true≢false (sym c ∙ ap test e ∙ q))
         smaller (no e) = omega arith
 
-passes-means : (above : List Line) (l : Line) → passes above l ≡ true → Passes above l
+pub passes-means : (above : List Line) (l : Line) → passes above l ≡ true → Passes above l
 unfolding passes
 passes-means above l h =
     let (R, a, b, c) = found (l .promise .period) (λ R. leb (l .promise .allowance + askedAbove above R) R) h in
     (R, a, b, leb-true (l .promise .allowance + askedAbove above R) R c)
 
-means-passes : (above : List Line) (l : Line) → Passes above l → passes above l ≡ true
+pub means-passes : (above : List Line) (l : Line) → Passes above l → passes above l ≡ true
 unfolding passes
 means-passes above l (R, a, b, c) =
     finds (l .promise .period) (λ R. leb (l .promise .allowance + askedAbove above R) R) R a b (le-leb (l .promise .allowance + askedAbove above R) R c)

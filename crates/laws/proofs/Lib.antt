@@ -13,6 +13,7 @@ pub mod WallRecord
 pub mod NoFault
 pub mod Readers
 pub mod Admitted
+pub mod Climbing
 pub mod LentRows
 pub mod SoloAlike
 pub mod Answered

@@ -1,8 +1,8 @@
 //! Both readers on several hundred thousand files: which file is refused, the
 //! number and the place are those of the second program.
 
-use compare::answers::{Verdict, ARRIVAL_LOG, BOOTH_TABLE};
-use compare::inputs::{kinds_of_log, kinds_of_table, Files};
+use compare::answers::{Verdict, ARRIVAL_LOG, BOOTH_TABLE, NOTHING};
+use compare::inputs::{kinds_at_the_edge, kinds_of_log, kinds_of_table, Files, Kind};
 use compare::judge;
 use compare::players::READERS;
 use compare::tally::Tally;
@@ -27,20 +27,35 @@ fn compare_files(kind: &str, Files { table, log }: &Files) -> Verdict {
     expected
 }
 
-#[test]
-fn booth_tables() {
+fn compare_tables(title: &str, kinds: Vec<Kind<Vec<u8>>>) -> Tally {
     let mut tally = Tally::default();
-    for kind in kinds_of_table(first_seed(20_000_000)) {
+    for kind in kinds {
         for table in kind.inputs {
             tally.add(kind.name, compare_table(kind.name, &table));
         }
     }
-    tally.print("booth tables");
+    tally.print(title);
+    tally
+}
+
+#[test]
+fn booth_tables() {
+    let tally = compare_tables("booth tables", kinds_of_table(first_seed(20_000_000)));
     assert!(tally.inputs() >= 200_000);
     for number in 1..=7 {
         let times = tally.times(BOOTH_TABLE, number);
         assert!(times >= 1_000, "table {number} only {times} times");
     }
+}
+
+/// The second program tries every R, which neither of the others does.
+#[test]
+fn tables_at_the_edge_of_admission() {
+    let kinds = kinds_at_the_edge(first_seed(30_000_000));
+    let tally = compare_tables("tables at the edge of admission", kinds);
+    assert!(tally.inputs() >= 300_000);
+    assert!(tally.times(NOTHING, 0) >= 100_000);
+    assert!(tally.times(BOOTH_TABLE, 7) >= 50_000);
 }
 
 /// 7 is a table's number alone; where both files are bad it is the answer too.

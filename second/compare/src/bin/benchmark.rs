@@ -58,7 +58,7 @@ mod readers {
     use std::hint::black_box;
 
     use compare::answers::Verdict;
-    use compare::inputs::{full_house, full_log};
+    use compare::inputs::{full_house, full_log, long_periods_at_the_edge};
     use compare::runs::Runs;
     use compare::stopwatch::in_turn;
     use compare::{fast, judge};
@@ -72,21 +72,22 @@ mod readers {
 
     pub fn lines() -> Vec<Line> {
         let longest = table_bytes(&full_house(65_535));
+        let [passes, fails] = long_periods_at_the_edge();
         let mut random = Random::new(first_seed(90_000_000));
-        let long_periods = table_bytes(&random_table(&WHOLE_EVENING, &mut random));
+        let any = table_bytes(&random_table(&WHOLE_EVENING, &mut random));
         let log = log_bytes(&full_log(1_000_000, 4_096, 65_535));
         vec![
-            table("table of eight booths of eight tasks", longest.clone()),
-            table(
-                "table with periods up to 10,000 (rust climbs to R)",
-                long_periods,
-            ),
+            table("table of eight booths of eight tasks", 0, longest.clone()),
+            table("table with periods from 9,000 to 10,000, passes", 0, passes),
+            table("the same, fails at the last booth", 7, fails),
+            table("random table with periods up to 10,000", 0, any),
             full(longest, log),
         ]
     }
 
-    fn table(work: &str, table: Vec<u8>) -> Line {
-        assert_eq!(judge::table_verdict(&table), Verdict::ACCEPTED);
+    /// The number is the verdict's.
+    fn table(work: &str, number: u32, table: Vec<u8>) -> Line {
+        assert_eq!(judge::table_verdict(&table).number, number);
         let measure = move || {
             let library = || raw::table_verdict(black_box(&table));
             let rust = || fast::table_verdict(black_box(&table));

@@ -1,10 +1,31 @@
 //! Tables at the edge of admission.
 
-use second::generate::{greatest_allowance, random_table, table_bytes, AT_THE_EDGE, WHOLE_EVENING};
+use second::generate::{
+    greatest_allowance, random_table, table_bytes, Shape, AT_THE_EDGE, LONG_AND_SPARSE,
+    WHOLE_EVENING,
+};
 use second::random::Random;
+use second::table::{Line, Table};
 
-/// A table in which one booth has all that admission leaves it, and the same
-/// table with one own tick more for it. The booths below stay half the time.
+use super::{randoms, Kind};
+
+/// One booth's allowance is one below all that admission leaves it, then just
+/// that, then one above. The booths below stay half the time.
+fn around_the_edge(shape: &Shape, random: &mut Random) -> [Vec<u8>; 3] {
+    let mut table = random_table(shape, random);
+    let booth = random.below(table.lines.len());
+    if random.one_in(2) {
+        table.lines.truncate(booth + 1);
+    }
+    let (earlier, rest) = table.lines.split_at(booth);
+    let greatest = greatest_allowance(earlier, rest[0].period);
+    [greatest - 1, greatest, greatest + 1].map(|allowance| {
+        table.lines[booth].allowance = allowance;
+        table_bytes(&table)
+    })
+}
+
+/// All that admission leaves one booth, and one own tick more.
 pub fn at_the_edge(random: &mut Random) -> [Vec<u8>; 2] {
     let periods_up_to_10000 = random.one_in(20);
     let shape = if periods_up_to_10000 {
@@ -12,14 +33,36 @@ pub fn at_the_edge(random: &mut Random) -> [Vec<u8>; 2] {
     } else {
         AT_THE_EDGE
     };
-    let mut table = random_table(&shape, random);
-    let booth = random.below(table.lines.len());
-    if random.one_in(2) {
-        table.lines.truncate(booth + 1);
-    }
-    let (earlier, rest) = table.lines.split_at_mut(booth);
-    rest[0].allowance = greatest_allowance(earlier, rest[0].period);
+    let [_, at, above] = around_the_edge(&shape, random);
+    [at, above]
+}
+
+/// Three tables for each draw.
+pub fn kinds_at_the_edge(first_seed: u64) -> Vec<Kind<Vec<u8>>> {
+    let tables = |kind, draws, shape: Shape| {
+        let randoms = randoms(first_seed, kind, draws);
+        randoms.flat_map(move |mut random| around_the_edge(&shape, &mut random))
+    };
+    vec![
+        Kind::new("periods up to 30", tables(0, 40_000, AT_THE_EDGE)),
+        Kind::new("periods up to 600", tables(1, 30_000, LONG_AND_SPARSE)),
+        Kind::new("periods up to 10,000", tables(2, 32_000, WHOLE_EVENING)),
+    ]
+}
+
+/// Eight booths with periods from 9,000 to 10,000, of which the last has all that
+/// admission leaves it, for an R in whose reach most booths above begin a second
+/// period; and the same table failing at the last booth by one own tick.
+pub fn long_periods_at_the_edge() -> [Vec<u8>; 2] {
+    let line = |period, allowance| Line {
+        period,
+        allowance,
+        longest_jobs: vec![65_535; 8],
+    };
+    let mut lines: Vec<Line> = (0..7).map(|booth| line(9_000 + 150 * booth, 100)).collect();
+    lines.push(line(10_000, greatest_allowance(&lines, 10_000)));
+    let mut table = Table { lines };
     let passes = table_bytes(&table);
-    table.lines[booth].allowance += 1;
+    table.lines[7].allowance += 1;
     [passes, table_bytes(&table)]
 }
