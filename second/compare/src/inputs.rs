@@ -11,7 +11,7 @@ mod sessions;
 mod tables;
 
 pub use desk::kinds_of_input;
-pub use edge::{kinds_at_the_edge, long_periods_at_the_edge};
+pub use edge::{asks_more_and_more, kinds_at_the_edge, long_periods_at_the_edge};
 pub use good::{audition, full_log};
 pub use growing::{growing_booths, growing_booths_without_rest, growing_entries, growing_h};
 pub use largest::{largest_sessions, session_without_entries};

@@ -58,7 +58,7 @@ mod readers {
     use std::hint::black_box;
 
     use compare::answers::Verdict;
-    use compare::inputs::{full_house, full_log, long_periods_at_the_edge};
+    use compare::inputs::{asks_more_and_more, full_house, full_log, long_periods_at_the_edge};
     use compare::runs::Runs;
     use compare::stopwatch::in_turn;
     use compare::{fast, judge};
@@ -81,6 +81,7 @@ mod readers {
             table("table with periods from 9,000 to 10,000, passes", 0, passes),
             table("the same, fails at the last booth", 7, fails),
             table("random table with periods up to 10,000", 0, any),
+            table("table that asks more and more", 7, asks_more_and_more()),
             full(longest, log),
         ]
     }

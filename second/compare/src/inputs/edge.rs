@@ -50,19 +50,33 @@ pub fn kinds_at_the_edge(first_seed: u64) -> Vec<Kind<Vec<u8>>> {
     ]
 }
 
+fn with_eight_tasks((period, allowance): (u64, u64)) -> Line {
+    Line {
+        period,
+        allowance,
+        longest_jobs: vec![65_535; 8],
+    }
+}
+
 /// Eight booths with periods from 9,000 to 10,000, of which the last has all that
 /// admission leaves it, for an R in whose reach most booths above begin a second
 /// period; and the same table failing at the last booth by one own tick.
 pub fn long_periods_at_the_edge() -> [Vec<u8>; 2] {
-    let line = |period, allowance| Line {
-        period,
-        allowance,
-        longest_jobs: vec![65_535; 8],
-    };
-    let mut lines: Vec<Line> = (0..7).map(|booth| line(9_000 + 150 * booth, 100)).collect();
-    lines.push(line(10_000, greatest_allowance(&lines, 10_000)));
-    let mut table = Table { lines };
-    let passes = table_bytes(&table);
-    table.lines[7].allowance += 1;
-    [passes, table_bytes(&table)]
+    let above = (0..7).map(|booth| (9_000 + 150 * booth, 100));
+    let mut lines: Vec<Line> = above.map(with_eight_tasks).collect();
+    let greatest = greatest_allowance(&lines, 10_000);
+    [greatest, greatest + 1].map(|allowance| {
+        lines.truncate(7);
+        lines.push(with_eight_tasks((10_000, allowance)));
+        table_bytes(&Table {
+            lines: lines.clone(),
+        })
+    })
+}
+
+/// The booth above works in every tick, so that each R asks for one more than R:
+/// the longest climb there is.
+pub fn asks_more_and_more() -> Vec<u8> {
+    let lines = [(1, 1), (10_000, 1)].map(with_eight_tasks).to_vec();
+    table_bytes(&Table { lines })
 }
