@@ -48,14 +48,15 @@ fn booth_tables() {
     }
 }
 
-/// The second program tries every R, which neither of the others does.
+/// The second program tries every R, which neither of the others does. One own tick
+/// less or more can leave an allowance out of range, and no R is tried then.
 #[test]
 fn tables_at_the_edge_of_admission() {
     let kinds = kinds_at_the_edge(first_seed(30_000_000));
     let tally = compare_tables("tables at the edge of admission", kinds);
-    assert!(tally.inputs() >= 300_000);
-    assert!(tally.times(NOTHING, 0) >= 100_000);
-    assert!(tally.times(BOOTH_TABLE, 7) >= 50_000);
+    let (admitted, refused) = (tally.times(NOTHING, 0), tally.times(BOOTH_TABLE, 7));
+    assert!(admitted + refused >= 300_000);
+    assert!(admitted >= 100_000 && refused >= 100_000);
 }
 
 /// 7 is a table's number alone; where both files are bad it is the answer too.

@@ -44,9 +44,9 @@ pub fn kinds_at_the_edge(first_seed: u64) -> Vec<Kind<Vec<u8>>> {
         randoms.flat_map(move |mut random| around_the_edge(&shape, &mut random))
     };
     vec![
-        Kind::new("periods up to 30", tables(0, 40_000, AT_THE_EDGE)),
-        Kind::new("periods up to 600", tables(1, 30_000, LONG_AND_SPARSE)),
-        Kind::new("periods up to 10,000", tables(2, 32_000, WHOLE_EVENING)),
+        Kind::new("periods up to 30", tables(0, 48_000, AT_THE_EDGE)),
+        Kind::new("periods up to 600", tables(1, 36_000, LONG_AND_SPARSE)),
+        Kind::new("periods up to 10,000", tables(2, 37_000, WHOLE_EVENING)),
     ]
 }
 
