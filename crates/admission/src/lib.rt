@@ -52,8 +52,8 @@ fn asked_above(
 }
 
 // The response test: some whole R from 1 to T has room for the booth's B and what the booths before it ask.
-// No R below B has room; and where an R is too small, none below the amount it asked for has, since what is asked never falls
-// as R grows.
+// The smallest R that can pass is B, whatever the others ask; and where an R is too small, none below the amount it asked for
+// passes, since what is asked never falls as R grows.
 fn passes(periods: &[u32; BOOTHS_ALLOWED], allowances: &[u32; BOOTHS_ALLOWED], i: usize) -> bool
     requires { ⌜ FitPromises (now periods) (now allowances) (i + 1) ⌝ }
     ensures { λ r. ⌜ r ≡ admission.passes (take i (promised (now (periods .entry)) (now (allowances .entry)))) (getD (promised (now (periods .entry)) (now (allowances .entry))) i no-line) ⌝ }
