@@ -3,9 +3,10 @@ use mathlib.Core.Path.{_≡_, refl}
 use mathlib.Core.Bool.{Bool, true, false}
 use mathlib.Core.List.{List, [], _∷_}
 use Prim.Native.Nat.{ℕ, zero, suc, _+_, _-_, _*_, _/_, _≤_, _<_}
-use native.Mathlib.Nat.{le-trans, div-zero, div-mul-le-self, le-div-iff-mul-le, mul-le-mul-left}
+use native.Mathlib.Nat.{div-zero, mul-le-mul-left, mul-le-mul-right}
 use native.Mathlib.Decide.{decLt}
 use native.Mathlib.Omega.{arith}
+use lib.Ieee.Nearest.{div-mono}
 use Rattle.rules.specs.BoothTable.{Line}
 use Rattle.rules.specs.Admission.{roundedUp, askedAbove, passes}
 use Rattle.laws.specs.Statements.{NoneBelow, Climb}
@@ -13,7 +14,7 @@ use Rattle.laws.proofs.Admitted.{passes-means}
 
 div-grows : (n k m : ℕ) → n ≤ k → n / m ≤ k / m
 div-grows n k zero h = omega (arith, div-zero n)
-div-grows n k (suc m) h = le-div-iff-mul-le {k = suc m} {x = n / suc m} {y = k} (omega arith) .1 (le-trans (div-mul-le-self n (suc m)) h)
+div-grows n k (suc m) h = div-mono n (suc m) k (suc m) (omega arith) (omega arith) (mul-le-mul-right (suc m) h)
 
 asked-grows : (above : List Line) (R S : ℕ) → R ≤ S → askedAbove above R ≤ askedAbove above S
 unfolding askedAbove roundedUp
