@@ -1,4 +1,6 @@
 // Admission: the response test of every booth of a table whose lines are in range.
+#![tactic(auto)]
+
 ghost use Rattle.std.specs.Prelude.{◌≡◌, [], ◌+◌, ◌≤◌, ◌<◌, length, take, get_or};
 ghost use Rattle.base.specs.Refusals.{fault_of};
 ghost use Rattle.rules.specs.Admission as admission;
@@ -12,7 +14,7 @@ use base::Fault;
 use rules::{BOOTHS_ALLOWED, Line, Table};
 
 // What the booths are promised, booth by booth.
-#[derive(Drop)]
+#[derive(Clone, Copy)]
 pub struct Promises {
     pub periods: [u32; BOOTHS_ALLOWED],
     pub allowances: [u32; BOOTHS_ALLOWED],

@@ -1,4 +1,6 @@
 // What every part of the product needs and no edition of its files changes: refusals, faults, and bytes as numbers.
+#![tactic(auto)]
+
 ghost use Rattle.std.specs.Prelude.{◌≡◌, ◌+◌, ◌≤◌, ◌<◌, length};
 ghost use Rattle.std.proofs.Math.Option.{some};
 ghost use Rattle.base.specs.Bytes.{number_at};
@@ -30,14 +32,14 @@ pub const DOES_NOT_FIT: u32 = 11;
 pub const TOO_LONG_AN_INPUT: u32 = 12;
 
 // A number of document 01 and the place it is said of; number 0 is no refusal.
-#[derive(Drop)]
+#[derive(Clone, Copy)]
 pub struct Refusal {
     pub number: u32,
     pub place: usize,
 }
 
 // What a run of checks finds: the first that fails, or nothing.
-#[derive(Drop)]
+#[derive(Clone, Copy)]
 pub enum Fault {
     Found(Refusal),
     Nothing,

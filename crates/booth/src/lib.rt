@@ -1,4 +1,6 @@
 // One booth and its moves at a wall tick: settle, then play. Each move takes the booth and hands it back changed.
+#![tactic(auto)]
+
 ghost use Rattle.std.specs.Prelude.{◌≡◌, List, ℕ, ◌+◌, ◌-◌, ◌≤◌, ◌<◌, length, get_or, drop, replicate, set};
 ghost use Rattle.rules.specs.ArrivalLog.{entry_at};
 ghost use Rattle.rules.specs.BoothTable.{Line as PageLine};
@@ -21,7 +23,7 @@ const NEVER: u32 = 4294967295;
 const NO_TASK: usize = NOBODY as usize;
 
 // What a booth is promised and how many tasks it has, with what moves. Demand lies at a multiple of 16 bytes, where a copy is quickest.
-#[derive(Drop)]
+#[derive(Clone, Copy)]
 pub struct Booth {
     // Below 8, in a whole word, so that no padding is copied with the state.
     pub number: usize,
@@ -43,14 +45,14 @@ pub struct Booth {
 }
 
 // What a settled booth answers.
-#[derive(Drop)]
+#[derive(Clone, Copy)]
 pub enum Chosen {
     Task(usize),
     Nothing,
 }
 
 // A booth that was asked at a wall tick, whether it worked, and the wall tick before which it need not be asked again.
-#[derive(Drop)]
+#[derive(Clone, Copy)]
 pub struct Asked {
     pub booth: Booth,
     pub wakes: WallTick,

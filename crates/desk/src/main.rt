@@ -1,4 +1,6 @@
 // The desk: a booth table, then an arrival log, from standard input; the session as text on standard output.
+#![tactic(auto)]
+
 use libc::{STDIN_FILENO, STDOUT_FILENO};
 use text::{MOST_INPUT, TEXT_ROOM};
 

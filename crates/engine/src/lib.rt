@@ -1,4 +1,6 @@
 // The plain engine: every wall tick in turn, booth after booth, then all booths settle at H.
+#![tactic(auto)]
+
 ghost use Rattle.std.specs.Prelude.{◌≡◌, ◌≤◌};
 ghost use Rattle.engine.specs.Running.{ToOpen, Opened, Ready, SleepTo, NextAwake, Ran, Ended, Closed};
 
@@ -6,7 +8,7 @@ use booth::Booth;
 use rules::{BOOTHS_ALLOWED, NOBODY, Table, WallTick};
 
 // The booths after the last wall tick, and what was counted on the way.
-#[derive(Drop)]
+#[derive(Clone, Copy)]
 pub struct Stage {
     pub booths: [Booth; BOOTHS_ALLOWED],
     pub worked: [u32; BOOTHS_ALLOWED],

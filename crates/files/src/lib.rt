@@ -1,4 +1,6 @@
 // The two files of a session, read in the one order in which every call takes them: the table, then the log over its lines.
+#![tactic(auto)]
+
 ghost use Rattle.std.specs.Prelude.{◌≡◌};
 ghost use Rattle.rules.specs.Files.{one_refused};
 ghost use Rattle.rules.specs.Verdicts.{refused_as};
@@ -8,7 +10,7 @@ use base::Refusal;
 use rules::{BOOTHS_ALLOWED, Refused, Table, Verdict};
 
 // The verdict on both files; with number 0 the table and the session's wall ticks, and else zeros.
-#[derive(Drop)]
+#[derive(Clone, Copy)]
 pub struct Files {
     pub verdict: Verdict,
     pub table: Table,

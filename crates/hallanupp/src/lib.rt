@@ -1,4 +1,6 @@
 // The C boundary: thin functions over the proved readers. include/hallanupp.h documents each for its callers.
+#![tactic(auto)]
+
 ghost use Rattle.std.specs.Prelude.{◌≡◌};
 ghost use Rattle.rules.specs.Files.{files_verdict};
 ghost use Rattle.hallanupp.specs.VerdictInC.{table_verdict, in_c, refused_in_c};
@@ -17,7 +19,7 @@ const VERSION: u32 = 1000000;
 
 // What is refused: 0 nothing, 1 the booth table, 2 the arrival log, 3 the call itself; then number and place.
 #[repr(C)]
-#[derive(Drop)]
+#[derive(Clone, Copy)]
 pub struct CVerdict {
     pub refused: u32,
     pub number: u32,

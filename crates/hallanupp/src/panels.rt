@@ -15,7 +15,7 @@ const PAST_ALL_TICKS: u32 = LONGEST_SESSION + 1;
 
 // The two shares; the reading is 0 none yet, 1 below, 2 at the ceiling, 3 over.
 #[repr(C)]
-#[derive(Drop)]
+#[derive(Clone, Copy)]
 pub struct CPanelRow {
     pub verdict: CVerdict,
     pub promised: f64,

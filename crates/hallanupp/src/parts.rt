@@ -10,7 +10,7 @@ use rules::{Refused, Verdict};
 
 // The row's first byte in the caller's own record, and how many bytes it is long; 0 and 0 where the call is refused.
 #[repr(C)]
-#[derive(Drop)]
+#[derive(Clone, Copy)]
 pub struct CRow {
     pub verdict: CVerdict,
     pub start: u64,

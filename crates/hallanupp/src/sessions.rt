@@ -10,7 +10,7 @@ use rules::BOOTHS_ALLOWED;
 
 // The verdict, the number of booths, each booth's final own clock and worked ticks, the idle ticks and H; zeros behind the last booth.
 #[repr(C)]
-#[derive(Drop)]
+#[derive(Clone, Copy)]
 pub struct CSession {
     pub verdict: CVerdict,
     pub booths: u64,

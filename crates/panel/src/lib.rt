@@ -1,4 +1,6 @@
 // The panel: a booth's two shares and their reading.
+#![tactic(auto)]
+
 ghost use Rattle.std.specs.Prelude.{◌≡◌, ◌+◌, ◌≤◌, ◌<◌, length, take};
 ghost use Rattle.rules.specs.declared.Refused.TheVariants.{TheCall};
 ghost use Rattle.base.specs.Refusals.{refusal};
@@ -14,7 +16,7 @@ use base::Refusal;
 use rules::{LONGEST_SESSION, Promise, Refused, Verdict, WallTick};
 
 // None yet, or how worked stands to due, with the share got.
-#[derive(Drop)]
+#[derive(Clone, Copy)]
 pub enum Reading {
     NoneYet,
     Below(f64),
@@ -23,7 +25,7 @@ pub enum Reading {
 }
 
 // The two shares of one booth, beside their reading.
-#[derive(Drop)]
+#[derive(Clone, Copy)]
 pub struct PanelRow {
     pub verdict: Verdict,
     pub promised: f64,

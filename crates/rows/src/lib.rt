@@ -1,4 +1,6 @@
 // A booth's own row handed back: a part of the caller's own record, not a copy.
+#![tactic(auto)]
+
 ghost use Rattle.std.specs.Prelude.{◌≡◌};
 ghost use Rattle.base.specs.Refusals.{first_fault, fault_of};
 ghost use Rattle.rules.specs.RowBack as page;

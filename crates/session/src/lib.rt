@@ -1,4 +1,6 @@
 // A session: the files, then the buffers, then the plain engine, and what is answered.
+#![tactic(auto)]
+
 ghost use Rattle.std.specs.Prelude.{◌≡◌, ◌+◌, ◌*◌, ◌≤◌, ◌<◌, length};
 ghost use Rattle.rules.specs.Session as page;
 ghost use Rattle.rules.specs.Values.{lines_held};
@@ -11,7 +13,7 @@ use booth::Booth;
 use rules::{BOOTHS_ALLOWED, Refused, Table, Verdict};
 
 // What a session answers: the verdict and the wall ticks played, then for each booth its final own clock and its worked ticks, and the idle ticks.
-#[derive(Drop)]
+#[derive(Clone, Copy)]
 pub struct SessionAnswer {
     pub verdict: Verdict,
     pub horizon: u32,

@@ -1,4 +1,6 @@
 // The solo part: what a booth plays alone, from its line and its own entries, and without the session's moves.
+#![tactic(auto)]
+
 ghost use Rattle.std.specs.Prelude.{◌≡◌, List, ℕ, ◌+◌, ◌*◌, ◌≤◌, ◌<◌, length, get_or, set};
 ghost use Rattle.base.specs.Bytes.{written};
 ghost use Rattle.rules.specs.Due.{due};
@@ -20,7 +22,7 @@ const NOBODY: usize = rules::NOBODY as usize;
 const NEVER: u32 = 4294967295;
 
 // A booth that plays alone. Ticks never fall, so release points never do, and the place in the log only moves on.
-#[derive(Drop)]
+#[derive(Clone, Copy)]
 struct Player {
     // Where the log's first entry that is not passed yet lies, and its release point.
     next: usize,

@@ -1,0 +1,31 @@
+-- `table::line_fault` meets its contract: each return is the first check that fails. Assumes nothing.
+use borrow.Author.Tests.{eq-eqb, ne_eqb, lt-ltb, le-ltb}
+use Rattle.base.specs.Refusals.{refuse_if, first_fault, fault_of}
+use Rattle.rules.specs.BoothTable.{line_checks}
+use Rattle.rules.specs.Values.{line_held}
+use borrow.Author.Rules.{rules}
+use Rattle.table.proofs.line_fault.Goals as goal
+
+pub returns-then-promise-eq0 : goal.returns-then-promise-eq0
+unfolding line_checks line_held first_fault refuse_if
+returns-then-promise-eq0 c = simp (c.fault_at.ensures, eq-eqb _ _ c.if-promise-eq0.true)
+
+pub returns-then-promise-gt-LONGEST_PERIOD : goal.returns-then-promise-gt-LONGEST_PERIOD
+unfolding line_checks line_held first_fault refuse_if
+returns-then-promise-gt-LONGEST_PERIOD c = simp (c.fault_at-then-promise-gt-LONGEST_PERIOD.ensures, ne_eqb _ _ c.if-promise-eq0.false, lt-ltb _ _ c.if-promise-gt-LONGEST_PERIOD.true)
+
+pub returns-then-promise-eq0-2 : goal.returns-then-promise-eq0-2
+unfolding line_checks line_held first_fault refuse_if
+returns-then-promise-eq0-2 c = simp (c.fault_at-then-promise-eq0-2.ensures, ne_eqb _ _ c.if-promise-eq0.false, le-ltb _ _ c.if-promise-gt-LONGEST_PERIOD.false, eq-eqb _ _ c.if-promise-eq0-2.true)
+
+pub returns-then-promise : goal.returns-then-promise
+unfolding line_checks line_held first_fault refuse_if
+returns-then-promise c = simp (c.fault_at-then-promise.ensures, ne_eqb _ _ c.if-promise-eq0.false, le-ltb _ _ c.if-promise-gt-LONGEST_PERIOD.false, ne_eqb _ _ c.if-promise-eq0-2.false, lt-ltb _ _ c.if-promise.true)
+
+pub returns-then-some_zero : goal.returns-then-some_zero
+unfolding line_checks line_held first_fault refuse_if
+returns-then-some_zero c = simp (c.fault_at-then-some_zero.ensures, ne_eqb _ _ c.if-promise-eq0.false, le-ltb _ _ c.if-promise-gt-LONGEST_PERIOD.false, ne_eqb _ _ c.if-promise-eq0-2.false, le-ltb _ _ c.if-promise.false, ← c.some_zero.ensures, c.if-some_zero.true)
+
+pub returns : goal.returns
+unfolding line_checks line_held first_fault refuse_if fault_of
+returns c = simp (ne_eqb _ _ c.if-promise-eq0.false, le-ltb _ _ c.if-promise-gt-LONGEST_PERIOD.false, ne_eqb _ _ c.if-promise-eq0-2.false, le-ltb _ _ c.if-promise.false, ← c.some_zero.ensures, c.if-some_zero.false)
