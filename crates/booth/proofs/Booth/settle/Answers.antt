@@ -1,0 +1,20 @@
+-- `booth::Booth::settle` meets its contract: where nothing is to be added and demand is left, settle changes nothing. Assumes nothing.
+use mathlib.Core.Path.{refl, sym, ◌∙◌}
+use native.Mathlib.Omega.{arith}
+use Rattle.booth.proofs.Settling.{settles_first, due_fits, settled_busy}
+use borrow.Author.Rules.{rules}
+use Rattle.booth.proofs.Booth.settle.Goals as goal
+
+pub returns-then-self-ne-NO_TASK : goal.returns-then-self-ne-NO_TASK
+returns-then-self-ne-NO_TASK c =
+    let bs = c.args.log.now in
+    let t = c.args.t.0 in
+    let h = c.args.self in
+    let row = c.args.row.now in
+    let s = settles_first bs t h row c.requires.1 c.requires.4 in
+    let fits = due_fits bs t h row h row s c.requires.3 in
+    let test = sym c.takes.ensures ∙ c.if-takes.false in record {
+      fit = record { fit = s.fit; stays = s.stays; grown = omega arith; cap = c.requires.4 };
+      state = λ l q. settled_busy bs t h row h row s fits.0 c.requires.0 c.requires.1 c.requires.4 test l q c.if-self-ne-NO_TASK.true;
+      row = refl;
+    }

@@ -1,0 +1,83 @@
+-- `booth::Booth::take_next` meets its contract: the moves of the code, one after the other, are the rule's. Assumes nothing.
+use mathlib.Core.Path.{◌≡◌, refl, sym, ap, ◌∙◌, subst}
+use Prim.Native.Nat.{ℕ, ◌+◌, ◌-◌, ◌≤◌, ◌<◌}
+use native.Mathlib.Omega.{arith}
+use lib.ListN.{length, get_or, set}
+use Rattle.rules.specs.InRange.{Sound}
+use Rattle.arrivals.proofs.PlaceLaws.{whole_entry}
+use Rattle.booth.specs.declared.Booth.{Booth}
+use Rattle.rules.specs.Moves.{first_task}
+use Rattle.booth.specs.BoothHeld.{owed, shown, Looked, looking_at, demanding, clock_at}
+use Rattle.booth.proofs.Taking.{entry_of, added, own_task, owed_moved, shown_taken, fit_taken}
+use borrow.Author.Rules.{rules}
+use Rattle.booth.proofs.Booth.take_next.Goals as goal
+
+pub entry_task-k-requires : goal.entry_task-k-requires
+entry_task-k-requires c = (whole_entry c.args.log.now c.args.self.at c.requires.whole_log.1.waits.place c.requires.whole_log.2).0
+
+pub entry_demand-d-requires : goal.entry_demand-d-requires
+entry_demand-d-requires c = (whole_entry c.args.log.now c.args.self.at c.requires.whole_log.1.waits.place c.requires.whole_log.2).0
+
+pub pass-self-requires : goal.pass-self-requires
+pass-self-requires c =
+    let s = c.requires.whole_log.1.steady in
+ record {
+      clock_in_bounds = (c.requires.clock_in_bounds.0, c.requires.clock_in_bounds.1);
+      allowance_nonzero = (s.sound.allowance, s.opens, c.requires.clock_in_bounds.2);
+    }
+
+pub add-self-requires : goal.add-self-requires
+unfolding clock_at
+add-self-requires c =
+    let bs = c.args.log.now in
+    let h = c.args.self in
+    let fit = c.requires.whole_log.1 in
+    let more = c.requires.whole_log.2 in
+    let moved = c.pass-self.ensures.state in
+    let k = c.entry_task-k.ensures in
+    let d = c.entry_demand-d.ensures in
+    let ds : owed c.pass-self.result ≡ owed h = ap owed moved ∙ owed_moved h (h.clock.0 + (h.point.0 - h.clock.0)) in (
+      omega (arith, k, own_task bs h fit more, fit.steady.tasks),
+      ap (λ (x : Booth). length x.demand) moved ∙ fit.steady.eight,
+      omega (arith, d.1, fit.room c.entry_task-k.result, ap (λ xs. get_or xs c.entry_task-k.result 0) ds),
+    )
+
+pub overflow_add-at : goal.overflow_add-at
+overflow_add-at c = omega (arith, c.requires.whole_log.0.short, (whole_entry c.args.log.now c.args.self.at c.requires.whole_log.1.waits.place c.requires.whole_log.2).0)
+
+pub look-self-requires : goal.look-self-requires
+unfolding clock_at demanding
+look-self-requires c =
+    let fit = c.requires.whole_log.1 in
+    let promise : c.add-self.result.promise ≡ c.args.self.promise = ap (λ (x : Booth). x.promise) c.add-self.ensures ∙ ap (λ (x : Booth). x.promise) c.pass-self.ensures.state in (
+      c.requires.whole_log.0,
+      (whole_entry c.args.log.now c.args.self.at fit.waits.place c.requires.whole_log.2).1,
+      subst Sound (sym promise) fit.steady.sound,
+    )
+
+pub returns : goal.returns
+unfolding looking_at demanding clock_at
+returns c =
+    let bs = c.args.log.now in
+    let h = c.args.self in
+    let fit = c.requires.whole_log.1 in
+    let more = c.requires.whole_log.2 in
+    let k = c.entry_task-k in
+    let d = c.entry_demand-d in
+    let pass = c.pass-self in
+    let e = entry_of bs h in
+    let is : c.add-self.result ≡ added bs h =
+    c.add-self.ensures
+    ∙ ap (λ (x : Booth). demanding x (set (owed x) k.result (get_or (owed x) k.result 0 + d.result))) pass.ensures.state
+    ∙ ap (λ ds. demanding (clock_at h (h.clock.0 + (h.point.0 - h.clock.0))) (set ds k.result (get_or ds k.result 0 + d.result))) (owed_moved h (h.clock.0 + (h.point.0 - h.clock.0)))
+    ∙ ap (λ (n : ℕ). demanding (clock_at h (h.clock.0 + (h.point.0 - h.clock.0))) (set (owed h) n (get_or (owed h) n 0 + d.result))) k.ensures
+    ∙ ap (λ (n : ℕ). demanding (clock_at h (h.clock.0 + (h.point.0 - h.clock.0))) (set (owed h) e.task (get_or (owed h) e.task 0 + n))) d.ensures.0 in
+    let looked : Looked bs (added bs h) (h.at + 9) c.look-self.result = subst (λ (x : Booth). Looked bs x (h.at + 9) c.look-self.result) is c.look-self.ensures in record {
+      fit = (
+        fit_taken bs h fit more c.args.row.now c.requires.clock_in_bounds.0 c.look-self.result looked (omega (arith, d.ensures)),
+        omega (arith, looked.later),
+        record { number = ap (λ (x : Booth). x.number) looked.is; promise = ap (λ (x : Booth). x.promise) looked.is; tasks = ap (λ (x : Booth). x.tasks) looked.is },
+      );
+      state = λ l q. ap (shown l bs c.look-self.result) pass.ensures.row ∙ shown_taken bs h fit more c.args.row.now c.requires.clock_in_bounds.0 c.look-self.result looked l q;
+      row = pass.ensures.row;
+    }
