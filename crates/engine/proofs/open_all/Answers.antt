@@ -39,8 +39,8 @@ loop-j-smaller c = omega (arith, c.requires.fit.lines.few)
 pub loop-j-preserved : goal.loop-j-preserved
 loop-j-preserved c =
     let l = c.loop-j in
-    let o = c.«open» in
-    (omega arith, one_opened l.j c.args.table.lines c.args.log.now l.booths l.invariant.1 (omega (arith, c.requires.fit.lines.few)) o.result o.ensures.0.0 o.ensures.0.1 o.ensures.0.2 o.ensures.1)
+    let o = c.open in
+    (omega arith, one_opened l.j c.args.table.lines c.args.log.now l.booths l.invariant.1 (omega (arith, c.requires.fit.lines.few)) o.result o.ensures.fit.0 o.ensures.fit.1 o.ensures.fit.2 o.ensures.state)
 
 pub returns : goal.returns
 returns c =
