@@ -1,0 +1,11 @@
+-- `held_tick` meets its contract: the test tells whether the tick fits. Assumes nothing.
+use mathlib.Core.Path.{sym}
+use Rattle.hallanupp.proofs.InC.{held_within, held_above}
+use borrow.Author.Rules.{rules}
+use Rattle.hallanupp.proofs.panels.held_tick.Goals as goal
+
+pub returns-then-t-gt-LONGEST_TICK : goal.returns-then-t-gt-LONGEST_TICK
+returns-then-t-gt-LONGEST_TICK c = sym (held_above _ c.if-t-gt-LONGEST_TICK.true)
+
+pub returns : goal.returns
+returns c = sym (held_within _ c.if-t-gt-LONGEST_TICK.false)
