@@ -1,14 +1,32 @@
 // The desk: a booth table, then an arrival log, from standard input; the session as text on standard output.
 #![tactic(auto)]
 
-use libc::{STDIN_FILENO, STDOUT_FILENO};
+ghost use Rattle.std.specs.Prelude.{◌≤◌, length, IfOk};
+
+use std::io;
+use std::io::{Print, Read};
 use text::{MOST_INPUT, TEXT_ROOM};
 
+// Reads until the buffer is full or the input ends, and answers how many bytes lie at its start.
+fn read_full<R: Read>(reader: &mut R, buffer: &mut [u8]) -> io::Result<usize>
+    ensures { IfOk result (λ n. n ≤ length buffer.new) }
+{
+    let mut done = 0;
+    while done < buffer.len() {
+        let n = reader.read(&mut buffer[done..])?;
+        if n == 0 {
+            break;
+        }
+        done += n;
+    }
+    Ok(done)
+}
+
 // One byte more than the desk takes is read, so that a longer input is known for what it is.
-fn main() {
+fn main(rt: HostRuntime) -> io::Result<()> {
     let mut input = [0u8; MOST_INPUT + 1];
-    let read = io::read_full(STDIN_FILENO, &mut input);
+    let read = read_full(&mut rt.stdin(), &mut input)?;
     let mut printed = [0u8; TEXT_ROOM];
     let length = text::desk_text(&input[..read], &mut printed);
-    io::write_all(STDOUT_FILENO, &printed[..length]);
+    rt.write_all(&printed[..length])
 }
