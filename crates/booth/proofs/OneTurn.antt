@@ -14,7 +14,6 @@ use Rattle.rules.proofs.FirstDemand.{First}
 use Rattle.laws.proofs.DueLaws.{laws_of_due, due_at_most}
 use Rattle.arrivals.specs.Places.{WholeLog}
 use Rattle.booth.specs.declared.Booth.{Booth as HeldBooth}
-use Rattle.booth.specs.declared.Chosen.{Chosen}
 use Rattle.booth.specs.declared.Chosen.TheVariants.{Task, Nothing}
 use Rattle.booth.specs.BoothHeld.{owed, shown, settled_answer, asked, takes_next, goes_on, wakes_at, Steady, Fit, AfterAsk, played_on}
 use Rattle.booth.proofs.Demand.{owed_eight}

@@ -1,13 +1,13 @@
 -- A booth that takes its waiting entries one after the other settles as document 01 says. Assumes nothing.
 use mathlib.Core.Path.{◌≡◌, refl, sym, ap, ◌∙◌, subst}
-use mathlib.Core.Bool.{Bool, true, false, ◌&&◌, ◌||◌, or-true, true≢false, false≢true}
+use mathlib.Core.Bool.{Bool, true, false, ◌&&◌, ◌||◌, or-true, true≢false}
 use mathlib.Core.List.{List, [], ◌∷◌}
-use Prim.Native.Nat.{ℕ, suc, ◌+◌, ◌-◌, ◌≤◌, ◌<◌}
+use Prim.Native.Nat.{ℕ, ◌+◌, ◌-◌, ◌≤◌, ◌<◌}
 use native.Mathlib.Decide.{dec_le}
 use native.Mathlib.Omega.{arith}
 use lib.Dec.{leb, eqb}
 use lib.ListN.{length, take, drop, replicate, length-replicate}
-use borrow.Author.Tests.{leb-true, leb-false, eq-eqb, ne_eqb}
+use borrow.Author.Tests.{leb-true, eq-eqb, ne_eqb}
 use Rattle.rules.specs.declared.Promise.{Promise}
 use Rattle.rules.specs.BoothTable.{Line}
 use Rattle.rules.specs.ArrivalLog.{Entry}
@@ -24,7 +24,7 @@ use Rattle.booth.specs.declared.Booth.{Booth as HeldBooth}
 use Rattle.booth.specs.BoothHeld.{owed, shown, taken_next, takes_next, Steady, Fit, Stays, clock_at, lengthened}
 use Rattle.booth.proofs.Demand.{nobody_first, none_taken, owed_eight}
 use Rattle.booth.proofs.RowWritten.{written_behind, agree_later}
-use Rattle.booth.proofs.Taking.{entry_of, taken_next_lem, first_waits, shown_moved, fit_moved}
+use Rattle.booth.proofs.Taking.{entry_of, taken_next_lem, first_waits, shown_moved}
 
 -- the wall tick from which an own tick that is due may be played fits a number
 pub near : (p : Promise) (u t : ℕ) → Sound p → p.period ≤ 10000 → t < 1000001 → u ≤ due p t → playable_from p u < 4294967296

@@ -1,19 +1,15 @@
 -- What a booth shows as its code takes the first waiting entry or moves its clock. Assumes nothing.
 use mathlib.Core.Path.{◌≡◌, refl, sym, ap, ◌∙◌, subst}
-use mathlib.Core.Logic.{◌⊎◌, inl, inr}
-use mathlib.Core.Bool.{Bool, true, false, ◌&&◌, ◌||◌}
-use mathlib.Core.List.{List, [], ◌∷◌, ◌++◌}
-use Prim.Native.Nat.{ℕ, suc, ◌+◌, ◌-◌, ◌*◌, ◌%◌, ◌≤◌, ◌<◌}
+use mathlib.Core.List.{List, ◌∷◌, ◌++◌}
+use Prim.Native.Nat.{ℕ, ◌+◌, ◌-◌, ◌*◌, ◌≤◌, ◌<◌}
 use native.Mathlib.Decide.{ℕ_discrete}
 use native.Mathlib.Omega.{arith}
-use lib.Dec.{leb, eqb}
-use lib.ListN.{length, get_or, take, drop, set, replicate, length-set, length-replicate}
+use lib.ListN.{length, get_or, take, set, replicate, length-set, length-replicate}
 use lib.Seq.{get_or-set_same, get_or-set_other, set-get_or}
 use Rattle.rules.specs.BoothTable.{Line}
 use Rattle.rules.specs.ArrivalLog.{Entry, entry_at}
 use Rattle.rules.specs.Due.{due, release_point}
-use Rattle.rules.specs.Moves.{Booth, nobody, no_demand, first_task, add_demand}
-use Rattle.laws.proofs.QuickSettle.{takes_first, settle_through, quick_settle}
+use Rattle.rules.specs.Moves.{Booth, first_task, add_demand}
 use Rattle.laws.specs.Courses.{forward, add_first, after_first}
 use Rattle.arrivals.specs.Places.{waiting_at}
 use Rattle.arrivals.proofs.PlaceLaws.{whole_entry, waiting_own}

@@ -1,21 +1,21 @@
 -- A settled booth's answer, what working does to it, and when it need not be asked. Assumes nothing.
 use mathlib.Core.Path.{◌≡◌, refl, sym, ap, ◌∙◌, subst}
 use mathlib.Core.Logic.{⊎_elim}
-use mathlib.Core.Bool.{Bool, true, false, not, ◌&&◌, true≢false}
-use mathlib.Core.List.{List, [], ◌∷◌, ◌++◌}
-use Prim.Native.Nat.{ℕ, suc, ◌+◌, ◌-◌, ◌*◌, ◌≤◌, ◌<◌}
+use mathlib.Core.Bool.{Bool, true, false, not, ◌&&◌}
+use mathlib.Core.List.{List}
+use Prim.Native.Nat.{ℕ, suc, ◌+◌, ◌-◌, ◌≤◌, ◌<◌}
 use native.Mathlib.Decide.{ℕ_discrete, dec_le}
 use native.Mathlib.Numerals.{add-one}
 use native.Mathlib.Omega.{arith}
 use lib.Dec.{ltb, eqb}
-use lib.ListN.{length, get_or, take, drop, set, length-set}
-use lib.Seq.{get_or-set_same, get_or-set_other, take-suc-set, drop-set-lt}
-use borrow.Author.Tests.{eq-eqb, ne_eqb, lt-ltb, le-ltb, eqb-true, eqb-false}
+use lib.ListN.{length, get_or, take, set}
+use lib.Seq.{get_or-set_same, get_or-set_other, take-suc-set}
+use borrow.Author.Tests.{eq-eqb, ne_eqb, lt-ltb, le-ltb}
 use Rattle.rules.specs.BoothTable.{Line}
 use Rattle.rules.specs.Due.{due, playable_from}
 use Rattle.rules.specs.Opens.{opens_at}
 use Rattle.rules.specs.declared.Opens.{Opens}
-use Rattle.rules.specs.Moves.{Booth, nobody, no_demand, first_task, lose_one, may_work, work, settle}
+use Rattle.rules.specs.Moves.{nobody, no_demand, first_task, may_work, work, settle}
 use Rattle.rules.specs.InRange.{Sound}
 use Rattle.rules.specs.ArrivalLog.{entry_at}
 use Rattle.rules.specs.declared.WallTick.{WallTick}
@@ -27,7 +27,6 @@ use Rattle.laws.proofs.Asleep.{asleep_silent, asleep_busy}
 use Rattle.arrivals.specs.Places.{WholeLog}
 use Rattle.arrivals.proofs.PlaceLaws.{waiting_end}
 use Rattle.booth.specs.declared.Booth.{Booth as HeldBooth}
-use Rattle.booth.specs.declared.Chosen.{Chosen}
 use Rattle.booth.specs.declared.Chosen.TheVariants.{Task, Nothing}
 use Rattle.booth.specs.BoothHeld.{owed, shown, settled_answer, wakes_at, Steady, Next, Fit, Stays, AfterPlay, played_on, demanding}
 use Rattle.rules.proofs.FirstDemand.{First, first_here}

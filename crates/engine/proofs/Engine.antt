@@ -1,24 +1,20 @@
 -- The engine's steps: what its loops keep. Assumes nothing.
 use mathlib.Core.Path.{◌≡◌, refl, sym, ap, ◌∙◌, subst}
-use mathlib.Core.Logic.{◌⊎◌, inl, inr, ◌≢◌}
-use mathlib.Core.Bool.{Bool, true, false, not, ◌&&◌, true≢false, false≢true}
-use mathlib.Core.List.{List, [], ◌++◌, map}
-use Prim.Native.Nat.{ℕ, zero, suc, ◌+◌, ◌-◌, ◌*◌, ◌/◌, ◌%◌, ◌≤◌, ◌<◌}
+use mathlib.Core.Bool.{true, false}
+use mathlib.Core.List.{List, ◌++◌, map}
+use Prim.Native.Nat.{ℕ, zero, suc, ◌+◌, ◌-◌, ◌*◌, ◌≤◌, ◌<◌}
 use native.Mathlib.Decide.{ℕ_discrete, dec_le}
 use native.Mathlib.Nat.{not-suc-le-zero, add-zero, zero-add, mul-le-mul_right}
 use native.Mathlib.Numerals.{add-one}
 use native.Mathlib.Omega.{arith}
-use lib.Dec.{leb, ltb, eqb}
 use lib.ListN.{length-append, length, get_or, take, drop, set, replicate, length-set, length-take, length-drop, length-map, take-append-drop}
 use lib.Seq.{drop-set-lt, get_or-set_same, get_or-set_other, length-take-le, ext_get_or, get_or-take, get_or-append-add}
-use borrow.Author.Tests.{eqb-true, eqb-false}
 use Rattle.rules.specs.BoothTable.{Line}
-use Rattle.rules.specs.ArrivalLog.{Entry, Log, entry_at}
 use Rattle.rules.specs.Due.{due}
 use Rattle.rules.specs.Moves.{Booth, settle, may_work, work}
 use Rattle.rules.specs.declared.Line.{Line as HeldLine}
 use Rattle.rules.specs.Session.{own_entries, fresh_booth, settled_at, write_rows, count, worked_from}
-use Rattle.rules.specs.Values.{padded, line_held, lines_held, no_held_line}
+use Rattle.rules.specs.Values.{padded, line_held, no_held_line}
 use Rattle.rules.proofs.Counting.{count_most}
 use Rattle.rules.proofs.Held.{zeros, map_take, length_padded, get_or_padded, set_padded}
 use Rattle.laws.specs.Courses.{AsRead, ShortRows, nobooth, Kept}

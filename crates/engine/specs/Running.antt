@@ -1,14 +1,14 @@
 -- What the engine's inner functions ask and give: the booths that the code keeps are the booths of the rules, and the course is the session's.
-use Rattle.std.specs.Prelude.{◌≡◌, List, [], ◌∷◌, map, ℕ, ◌+◌, ◌-◌, ◌*◌, ◌/◌, ◌≤◌, ◌<◌, length, get_or, take, replicate}
+use Rattle.std.specs.Prelude.{◌≡◌, List, [], map, ℕ, ◌*◌, ◌≤◌, ◌<◌, length, get_or, take, replicate}
 use Rattle.rules.specs.declared.Line.{Line as HeldLine}
 use Rattle.rules.specs.declared.Table.{Table}
 use Rattle.rules.specs.BoothTable.{Line}
-use Rattle.rules.specs.ArrivalLog.{Entry, Log, entry_at}
+use Rattle.rules.specs.ArrivalLog.{entry_at}
 use Rattle.rules.specs.Moves.{Booth}
 use Rattle.rules.specs.Session.{own_entries, fresh_booth}
 use Rattle.rules.specs.Values.{padded, line_held, lines_held, no_held_line}
 use Rattle.rules.specs.Fit.{FitTable}
-use Rattle.arrivals.specs.Places.{entries_from, waiting_at, Place, WholeLog, entries_of}
+use Rattle.arrivals.specs.Places.{waiting_at, Place, WholeLog, entries_of}
 use Rattle.laws.specs.Courses.{AsRead, nobooth, Course, Closing}
 use Rattle.booth.specs.declared.Booth.{Booth as HeldBooth}
 use Rattle.booth.specs.BoothHeld.{owed, shown, Fit}

@@ -21,7 +21,7 @@ use Rattle.arrivals.specs.Places.{log_of}
 use Rattle.arrivals.proofs.LogNumbers.{Took}
 use Rattle.arrivals.proofs.TakenLog.{log_is, whole_log, task_fits}
 use Rattle.files.specs.declared.Files.{Files}
-use Rattle.files.specs.Told.{told, FilesTaken, FilesRead}
+use Rattle.files.specs.Told.{told, FilesRead}
 
 pub refused_so : (table_bytes log_bytes : List ℕ) (f : Files) (v : Verdict) → f ≡ told (one_refused v) → read_files table_bytes log_bytes ≡ one_refused v → v.refusal.number ≢ 0
     → FilesRead table_bytes log_bytes f

@@ -10,7 +10,7 @@ use lib.Dec.{leb, ltb, lit<}
 use lib.ListN.{length, take, drop}
 use Rattle.base.specs.declared.Refusal.{Refusal}
 use Rattle.rules.specs.declared.Refused.{Refused}
-use Rattle.rules.specs.declared.Refused.TheVariants.{TheTable, TheCall}
+use Rattle.rules.specs.declared.Refused.TheVariants.{TheCall}
 use Rattle.rules.specs.declared.Verdict.{Verdict}
 use Rattle.base.specs.Refusals.{Taken, taken, refused, refusal, first_fault}
 use Rattle.rules.specs.Verdicts.{accepted, refused_as}

@@ -1,9 +1,9 @@
 -- What is said in C of a table, from what its reader said. Assumes nothing.
-use mathlib.Core.Path.{◌≡◌, refl, sym, ap, ◌∙◌}
+use mathlib.Core.Path.{◌≡◌}
 use mathlib.Core.List.{List}
 use Prim.Native.Nat.{ℕ}
 use Rattle.base.specs.declared.Refusal.{Refusal}
-use Rattle.base.specs.Refusals.{Taken, taken, refused, refusal}
+use Rattle.base.specs.Refusals.{taken, refused, refusal}
 use Rattle.rules.specs.Verdicts.{accepted, refused_as}
 use Rattle.rules.specs.BoothTable.{Line}
 use Rattle.rules.specs.Admission.{read_table}

@@ -4,7 +4,7 @@ use Rattle.base.specs.declared.Refusal.{Refusal}
 use Rattle.rules.specs.declared.Refused.{Refused}
 use Rattle.rules.specs.declared.Refused.TheVariants.{Nothing, TheTable, TheLog, TheCall}
 use Rattle.rules.specs.declared.Verdict.{Verdict}
-use Rattle.base.specs.Refusals.{Taken, taken, refused}
+use Rattle.base.specs.Refusals.{taken, refused}
 use Rattle.rules.specs.Verdicts.{accepted, refused_as}
 use Rattle.rules.specs.Admission.{read_table}
 use Rattle.hallanupp.specs.declared.CVerdict.{CVerdict}

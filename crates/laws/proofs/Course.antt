@@ -7,14 +7,12 @@ use mathlib.Core.List.{List, [], ◌∷◌, ◌++◌, map, append_assoc}
 use Prim.Native.Nat.{ℕ, suc, ◌+◌, ◌-◌, ◌*◌, ◌≤◌, ◌<◌}
 use native.Mathlib.Decide.{ℕ_discrete}
 use native.Mathlib.Nat.{not-suc-le-zero, zero-add}
-use native.Mathlib.Numerals.{add-one}
 use native.Mathlib.Omega.{arith}
 use lib.ListN.{length, get_or, take, drop, set, replicate, length-append, length-replicate, length-set, length-map}
 use lib.Seq.{get_or-set_same, get_or-set_other, ext_get_or, take-append_seam}
 use Rattle.base.specs.Bytes.{written}
 use Rattle.rules.specs.BoothTable.{Line, no_line}
 use Rattle.rules.specs.ArrivalLog.{Entry}
-use Rattle.rules.specs.Due.{due}
 use Rattle.rules.specs.Moves.{Booth, nobody, no_demand, settle, may_work, first_task, work, worker, turn, settle_all}
 use Rattle.rules.specs.Session.{own_entries, fresh_booth, open_booths, settled_at, count, write_rows}
 use Rattle.rules.proofs.Held.{zeros, at_set}
@@ -23,15 +21,15 @@ use Rattle.laws.specs.Statements.{booth_at}
 use Rattle.laws.proofs.Entries.{own_sorted}
 use Rattle.laws.specs.Ordered.{Sorted}
 use Rattle.laws.specs.Courses.{forward, add_first, InOrder, AsRead, ShortRows, nobooth, Kept, Course, Closing}
-use Rattle.laws.proofs.DueLaws.{due_zero, due_at_most}
+use Rattle.laws.proofs.DueLaws.{due_at_most}
 use Rattle.laws.proofs.QuickSettle.{quick_settle, settle_ind, rests}
 use Rattle.laws.proofs.PageSettle.{settle_quick}
-use Rattle.laws.proofs.SettleAgain.{in_order_later, settled_in_order, settle_line, work_in_order, settle_again}
+use Rattle.laws.proofs.SettleAgain.{in_order_later, settled_in_order, work_in_order, settle_again}
 use Rattle.laws.proofs.FirstWorker.{first_works, none_works}
 use Rattle.laws.proofs.Run.{get_d_map, length_open, open_at, opened, length_booths, wall_start, wall_step}
 use Rattle.laws.proofs.WallRecord.{length_wall}
 use Rattle.rules.proofs.Counting.{count_nil, count_last_same, count_last_other}
-use Rattle.laws.proofs.RowSlices.{rows_open, row_moved, short_set, short_at}
+use Rattle.laws.proofs.RowSlices.{rows_open, row_moved, short_set}
 
 -- ---- settling lengthens a row by silence
 

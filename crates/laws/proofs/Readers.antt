@@ -1,19 +1,18 @@
 -- What the readers guarantee of what they take. Assumes nothing.
-use mathlib.Core.Path.{◌≡◌, refl, sym, ap, ◌∙◌, subst}
-use mathlib.Core.Logic.{◌≢◌}
+use mathlib.Core.Path.{◌≡◌, refl, ap, ◌∙◌, subst}
 use mathlib.Core.Bool.{Bool, true, false}
 use mathlib.Core.List.{List, [], ◌∷◌, ◌++◌}
 use mathlib.Core.Option.{Option, none, some}
-use Prim.Native.Nat.{ℕ, zero, suc, ◌+◌, ◌-◌, ◌*◌, ◌/◌, ◌≤◌, ◌<◌}
+use Prim.Native.Nat.{ℕ, zero, suc, ◌+◌, ◌*◌, ◌≤◌, ◌<◌}
 use native.Mathlib.Nat.{not-suc-le-zero, le_of_suc-le-suc}
 use native.Mathlib.Omega.{arith}
 use lib.Dec.{leb, ltb, eqb}
 use lib.ListN.{length, get_or}
-use borrow.Author.Tests.{ltb-false, leb-true, leb-false, eqb-false, not-false}
+use borrow.Author.Tests.{ltb-false, leb-true, leb-false, eqb-false}
 use Rattle.base.specs.declared.Refusal.{Refusal}
 use Rattle.base.specs.Refusals.{Taken, taken, refused, refuse_if, first_fault}
 use Rattle.rules.specs.FileHead.{head_checks}
-use Rattle.rules.specs.BoothTable.{Line, Placed, lines_of, booths_allowed, longest_period, table_n, header_checks, record_l, record_end, line_at, placed_at, length_allowed, line_checks, record_checks, with_placed, read_records, read_lines}
+use Rattle.rules.specs.BoothTable.{Line, Placed, lines_of, booths_allowed, table_n, header_checks, record_end, placed_at, record_checks, with_placed, read_records, read_lines}
 use Rattle.rules.specs.ArrivalLog.{Entry, Log, longest_session, entries_allowed, entry_bytes, log_n, log_h, log_head_checks, horizon_checks, entry_at, longest_jobs, entry_checks, with_entry, read_entries, with_horizon, read_log}
 use Rattle.base.proofs.Checks.{neither}
 use Rattle.rules.proofs.Records.{positive, record_passed}

@@ -2,18 +2,17 @@
 use mathlib.Core.Path.{◌≡◌, refl, sym, ap, ◌∙◌}
 use mathlib.Core.Logic.{◌⊎◌, inl, inr}
 use mathlib.Core.Bool.{Bool, true, false, ◌&&◌}
-use mathlib.Core.List.{List, [], ◌∷◌, ◌++◌}
+use mathlib.Core.List.{List, [], ◌∷◌}
 use Prim.Native.Nat.{ℕ, zero, suc, ◌≤◌, ◌<◌}
 use native.Mathlib.Nat.{eq-or-lt_of_le}
 use native.Mathlib.Omega.{arith}
-use lib.Dec.{leb, ltb, eqb}
-use lib.ListN.{length, take}
+use lib.Dec.{leb, eqb}
+use lib.ListN.{take}
 use lib.Seq.{take-append-le, take_all}
 use Rattle.rules.specs.BoothTable.{Line}
 use Rattle.rules.specs.ArrivalLog.{Entry}
 use Rattle.rules.specs.Due.{due, release_point}
-use Rattle.rules.specs.Session.{count}
-use Rattle.rules.specs.SoloPart.{asked, first_that, solo}
+use Rattle.rules.specs.SoloPart.{asked, solo}
 use Rattle.laws.specs.Statements.{asks}
 use Rattle.laws.proofs.Opening.{length_solo}
 

@@ -1,25 +1,22 @@
 -- From an accepted table and log to the answer: how the run begins, and what is left when it has ended. Assumes nothing.
 use mathlib.Core.Path.{◌≡◌, refl, sym, ap, ◌∙◌, subst}
-use mathlib.Core.List.{List, [], ◌++◌, map}
-use Prim.Native.Nat.{ℕ, ◌+◌, ◌-◌, ◌*◌, ◌≤◌, ◌<◌}
+use mathlib.Core.List.{List, [], map}
+use Prim.Native.Nat.{ℕ, ◌*◌, ◌≤◌, ◌<◌}
 use native.Mathlib.Nat.{zero-add}
 use native.Mathlib.Omega.{arith}
-use lib.ListN.{length, get_or, take, set, length-map, length-replicate}
-use lib.Seq.{ext_get_or, get_or-take, length-take-le}
+use lib.ListN.{length, get_or, take, length-map}
 use Rattle.rules.specs.declared.Table.{Table}
 use Rattle.rules.specs.declared.Refused.TheVariants.{Nothing}
-use Rattle.base.specs.Bytes.{written}
 use Rattle.base.specs.Refusals.{refusal}
 use Rattle.rules.specs.Verdicts.{accepted}
 use Rattle.rules.specs.BoothTable.{Line, no_line}
-use Rattle.rules.specs.ArrivalLog.{Entry, Log}
+use Rattle.rules.specs.ArrivalLog.{Log}
 use Rattle.rules.specs.Moves.{Booth, nobody}
 use Rattle.rules.specs.Session.{own_entries, fresh_booth, open_booths, settled_at, count, worked_from, write_rows, played}
 use Rattle.rules.specs.Values.{padded, line_held, lines_held, no_held_line}
 use Rattle.rules.proofs.Fitting.{lines_in, line_in}
-use Rattle.laws.proofs.Run.{get_d_map, open_at, length_booths}
-use Rattle.laws.specs.Ordered.{Sorted}
-use Rattle.laws.specs.Courses.{AsRead, nobooth, Course, Closing}
+use Rattle.laws.proofs.Run.{open_at, length_booths}
+use Rattle.laws.specs.Courses.{nobooth}
 use Rattle.laws.proofs.Course.{begins, closes, closed}
 use Rattle.booth.specs.declared.Booth.{Booth as HeldBooth}
 use Rattle.rules.specs.declared.Verdict.{Verdict}

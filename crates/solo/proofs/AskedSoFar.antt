@@ -8,14 +8,12 @@ use native.Mathlib.Omega.{arith}
 use lib.ListN.{length}
 use borrow.Author.Tests.{eq-eqb, ne_eqb, le-leb}
 use Rattle.rules.specs.declared.Line.{Line as HeldLine}
-use Rattle.rules.specs.declared.Promise.{Promise}
 use Rattle.rules.specs.BoothTable.{Line}
 use Rattle.rules.specs.ArrivalLog.{Entry, entry_at}
 use Rattle.rules.specs.Due.{due, release_point}
 use Rattle.rules.specs.Session.{own_entries}
 use Rattle.rules.specs.SoloPart.{asked}
 use Rattle.rules.specs.Values.{line_held}
-use Rattle.rules.specs.InRange.{Sound}
 use Rattle.laws.specs.Ordered.{Sorted}
 use Rattle.laws.proofs.Entries.{own_from, from_past}
 use Rattle.laws.proofs.Opening.{asked_none}

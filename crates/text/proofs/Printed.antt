@@ -8,7 +8,7 @@ use borrow.Author.Tests.{lt-ltb, le-ltb}
 use Rattle.rules.specs.declared.Refused.{Refused}
 use Rattle.rules.specs.declared.Refused.TheVariants.{Nothing, TheTable, TheLog, TheCall}
 use Rattle.base.specs.Bytes.{written}
-use Rattle.base.specs.Refusals.{refused, refusal}
+use Rattle.base.specs.Refusals.{refusal}
 use Rattle.rules.specs.BoothTable.{booths_allowed}
 use Rattle.rules.specs.Session.{Outcome, session}
 use Rattle.rules.specs.RowBack.{row_back}

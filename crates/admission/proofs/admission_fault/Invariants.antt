@@ -1,18 +1,10 @@
 -- `admission::admission_fault` meets its contract: every booth before i passed. Assumes nothing.
-use mathlib.Core.Path.{◌≡◌, refl, sym, ◌∙◌}
+use mathlib.Core.Path.{◌≡◌}
 use mathlib.Core.List.{[]}
-use Prim.Native.Nat.{◌+◌, ◌-◌, ◌≤◌}
-use native.Mathlib.Omega.{arith}
-use borrow.Author.Rules.{rules}
-use borrow.Author.Tests.{not-true, not-false}
-use lib.ListN.{length, take, drop}
-use Rattle.base.specs.Refusals.{fault_of}
+use Prim.Native.Nat.{◌-◌, ◌≤◌}
+use lib.ListN.{take, drop}
 use Rattle.rules.specs.Admission.{first_failing}
-use Rattle.rules.specs.Values.{lines_held}
-use Rattle.admission.specs.NotAdmitted.{not_admitted_at}
 use Rattle.admission.specs.Promised.{promised}
-use Rattle.admission.proofs.LaidOut.{failing_laid, fit_laid}
-use Rattle.admission.proofs.Test.{promised_length, failing_more, failing_here, failing_none}
 use Rattle.admission.proofs.admission_fault.Given as goal
 
 abbrev pub invariant-loop-i : goal.invariant-loop-i

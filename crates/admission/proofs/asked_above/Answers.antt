@@ -1,8 +1,7 @@
 -- `admission::asked_above` meets its contract: after j turns, what the first j booths ask. Assumes nothing.
 use mathlib.Core.Path.{◌≡◌, refl, sym, ap, ◌∙◌}
-use Prim.Native.Nat.{◌+◌, ◌*◌, ◌-◌, ◌≤◌}
+use Prim.Native.Nat.{◌+◌, ◌*◌, ◌≤◌}
 use native.Mathlib.Omega.{arith}
-use borrow.Author.Rules.{rules}
 use lib.ListN.{take, get_or}
 use Rattle.rules.specs.Admission.{asked_above}
 use Rattle.admission.specs.Promised.{promised}

@@ -1,12 +1,9 @@
 -- `admission::asked_above` meets its contract: after j turns, what the first j booths ask. Assumes nothing.
-use mathlib.Core.Path.{◌≡◌, refl, sym, ap, ◌∙◌}
-use Prim.Native.Nat.{◌+◌, ◌*◌, ◌-◌, ◌≤◌}
-use native.Mathlib.Omega.{arith}
-use borrow.Author.Rules.{rules}
-use lib.ListN.{take, get_or}
+use mathlib.Core.Path.{◌≡◌}
+use Prim.Native.Nat.{◌*◌, ◌-◌, ◌≤◌}
+use lib.ListN.{take}
 use Rattle.rules.specs.Admission.{asked_above}
 use Rattle.admission.specs.Promised.{promised}
-use Rattle.admission.proofs.Test.{asked_more, product_small}
 use Rattle.admission.proofs.asked_above.Given as goal
 
 abbrev pub invariant-loop-j : goal.invariant-loop-j

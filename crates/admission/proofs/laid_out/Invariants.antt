@@ -1,12 +1,6 @@
 -- `admission::laid_out` meets its contract: after k turns the arrays hold the first k promises. Assumes nothing.
-use mathlib.Core.Path.{refl, ap, ◌∙◌}
-use mathlib.Core.List.{map}
 use Prim.Native.Nat.{◌-◌, ◌≤◌}
-use native.Mathlib.Omega.{arith}
-use borrow.Author.Rules.{rules}
-use Rattle.rules.specs.Values.{padded}
-use Rattle.admission.specs.Promised.{promises_of}
-use Rattle.admission.proofs.LaidOut.{Laid, laid_more, laid_all}
+use Rattle.admission.proofs.LaidOut.{Laid}
 use Rattle.admission.proofs.laid_out.Given as goal
 
 abbrev pub invariant-loop-k : goal.invariant-loop-k

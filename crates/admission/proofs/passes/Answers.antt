@@ -1,10 +1,5 @@
 -- `admission::passes` meets its contract: no R below r passes. Assumes nothing.
-use mathlib.Core.Path.{◌≡◌}
-use Prim.Native.Nat.{suc, ◌+◌, ◌-◌, ◌≤◌, ◌<◌}
 use native.Mathlib.Omega.{arith}
-use lib.ListN.{take}
-use Rattle.laws.specs.Statements.{NoneBelow}
-use Rattle.admission.specs.Promised.{promised}
 use Rattle.admission.proofs.Test.{fit_up_to, in_range, goes_on, found, none_found}
 use Rattle.admission.proofs.passes.Goals as goal
 

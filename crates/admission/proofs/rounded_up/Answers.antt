@@ -5,7 +5,6 @@ use native.Mathlib.Nat.{div-le_self}
 use native.Mathlib.Omega.{arith}
 use lib.Arith.{digits_div}
 use Rattle.rules.specs.Admission.{rounded_up}
-use borrow.Author.Rules.{rules}
 use Rattle.admission.proofs.rounded_up.Goals as goal
 
 -- q whole m and r more that are fewer than m

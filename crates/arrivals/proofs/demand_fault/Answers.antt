@@ -1,5 +1,4 @@
 -- `arrivals::demand_fault` meets its contract: each return is the first check that fails. Assumes nothing.
-use borrow.Author.Rules.{rules}
 use borrow.Author.Tests.{eq-eqb, ne_eqb, lt-ltb, le-ltb}
 use Rattle.base.specs.Refusals.{refuse_if, first_fault, fault_of}
 use Rattle.arrivals.specs.Limits.{demand_checks}

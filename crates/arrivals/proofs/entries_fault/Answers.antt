@@ -1,9 +1,8 @@
 -- `arrivals::entries_fault` meets its contract: the reader stands where entries are still to be checked. Assumes nothing.
 use mathlib.Core.Path.{◌≡◌, sym, ap, ◌∙◌, subst}
 use mathlib.Core.Option.{none}
-use Prim.Native.Nat.{◌+◌, ◌-◌, ◌≤◌}
+use Prim.Native.Nat.{◌+◌, ◌≤◌}
 use native.Mathlib.Omega.{arith}
-use borrow.Author.Rules.{rules}
 use lib.ListN.{length}
 use Rattle.base.specs.Refusals.{first_fault, fault_of}
 use Rattle.base.proofs.Checks.{nothing_found, fault_found}

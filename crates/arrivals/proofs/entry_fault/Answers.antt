@@ -6,7 +6,6 @@ use borrow.Author.Tests.{eq-eqb, ne_eqb, lt-ltb, le-ltb, le-leb, lt-leb}
 use Rattle.base.specs.Refusals.{refuse_if, first_fault, fault_of}
 use Rattle.arrivals.specs.Limits.{held_checks}
 use Rattle.arrivals.proofs.EntryChecks.{Known, demand_left}
-use borrow.Author.Rules.{rules}
 use Rattle.arrivals.proofs.entry_fault.Goals as goal
 use Rattle.arrivals.proofs.entry_fault.Goals.{After-entry_demand-demand}
 

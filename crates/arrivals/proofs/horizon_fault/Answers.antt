@@ -5,7 +5,6 @@ use borrow.Author.Tests.{lt-ltb, le-ltb}
 use Rattle.base.specs.Bytes.{number_at}
 use Rattle.base.specs.Refusals.{refuse_if, first_fault, fault_of}
 use Rattle.rules.specs.ArrivalLog.{horizon_checks, log_n, log_h}
-use borrow.Author.Rules.{rules}
 use Rattle.arrivals.proofs.horizon_fault.Goals as goal
 
 pub returns-then-n-lt4 : goal.returns-then-n-lt4

@@ -1,13 +1,12 @@
 -- `arrivals::longest_jobs` meets its contract: place n holds job n % 8 of booth n / 8. Assumes nothing.
 use mathlib.Core.Path.{refl, ap, ◌∙◌}
-use Prim.Native.Nat.{◌+◌, ◌*◌, ◌-◌, ◌/◌, ◌%◌, ◌≤◌}
+use Prim.Native.Nat.{◌+◌, ◌*◌, ◌%◌}
 use native.Mathlib.Nat.{not-suc-le-zero}
 use native.Mathlib.Omega.{arith}
-use borrow.Author.Rules.{rules}
 use lib.Arith.{digits_div, digits_mod}
 use lib.ListN.{get_or}
 use Rattle.rules.specs.Values.{no_held_line}
-use Rattle.arrivals.proofs.Filled.{Filled, filled_more}
+use Rattle.arrivals.proofs.Filled.{filled_more}
 use Rattle.arrivals.proofs.longest_jobs.Goals as goal
 
 pub loop-i-init : goal.loop-i-init

@@ -1,13 +1,8 @@
 -- `arrivals::longest_jobs` meets its contract: place n holds job n % 8 of booth n / 8. Assumes nothing.
-use mathlib.Core.Path.{refl, ap, ◌∙◌}
-use Prim.Native.Nat.{◌+◌, ◌*◌, ◌-◌, ◌/◌, ◌%◌, ◌≤◌}
-use native.Mathlib.Nat.{not-suc-le-zero}
-use native.Mathlib.Omega.{arith}
-use borrow.Author.Rules.{rules}
-use lib.Arith.{digits_div, digits_mod}
+use Prim.Native.Nat.{◌-◌, ◌/◌, ◌%◌, ◌≤◌}
 use lib.ListN.{get_or}
 use Rattle.rules.specs.Values.{no_held_line}
-use Rattle.arrivals.proofs.Filled.{Filled, filled_more}
+use Rattle.arrivals.proofs.Filled.{Filled}
 use Rattle.arrivals.proofs.longest_jobs.Given as goal
 
 abbrev pub invariant-loop-i : goal.invariant-loop-i

@@ -15,7 +15,6 @@ use Rattle.arrivals.proofs.EntryChecks.{within}
 use Rattle.rules.proofs.WholeFile.{head_whole}
 use Rattle.arrivals.proofs.LogReading.{Room, horizon_room, head_refused, horizon_refused, entries_read, entries_refused, entries_taken, refused_answer}
 use Rattle.arrivals.proofs.PlaceLaws.{length_from}
-use borrow.Author.Rules.{rules}
 use Rattle.arrivals.proofs.read_log.Goals as goal
 use Rattle.arrivals.proofs.read_log.Goals.{In_default, In_default-horizon_fault}
 

@@ -1,12 +1,8 @@
 -- `arrivals::task_counts` meets its contract: after so many turns the first places hold their booths' numbers of tasks. Assumes nothing.
-use mathlib.Core.Path.{refl}
 use Prim.Native.Nat.{◌-◌, ◌≤◌}
-use native.Mathlib.Nat.{not-suc-le-zero}
-use native.Mathlib.Omega.{arith}
-use borrow.Author.Rules.{rules}
 use lib.ListN.{get_or}
 use Rattle.rules.specs.Values.{no_held_line}
-use Rattle.arrivals.proofs.Filled.{Filled, filled_more}
+use Rattle.arrivals.proofs.Filled.{Filled}
 use Rattle.arrivals.proofs.task_counts.Given as goal
 
 abbrev pub invariant-loop-booth : goal.invariant-loop-booth

@@ -1,11 +1,6 @@
 -- `booth::next_of` meets its contract: every entry passed is another booth's. Assumes nothing.
-use mathlib.Core.Path.{◌≡◌, refl, sym, ◌∙◌}
-use Prim.Native.Nat.{◌-◌, ◌≤◌}
+use mathlib.Core.Path.{refl, sym, ◌∙◌}
 use native.Mathlib.Omega.{arith}
-use borrow.Author.Rules.{rules}
-use lib.ListN.{length}
-use Rattle.rules.specs.ArrivalLog.{entry_at}
-use Rattle.arrivals.specs.Places.{waiting_at, Place}
 use Rattle.arrivals.proofs.PlaceLaws.{whole_entry, waiting_other}
 use Rattle.booth.proofs.next_of.Goals as goal
 

@@ -1,10 +1,8 @@
 -- `engine::close` meets its contract: the booths before i are settled at H. Assumes nothing.
-use mathlib.Core.Path.{◌≡◌, refl, sym, ap, ◌∙◌, subst}
-use Prim.Native.Nat.{ℕ, ◌+◌, ◌*◌, ◌-◌, ◌≤◌, ◌<◌}
+use mathlib.Core.Path.{◌≡◌, refl, subst}
+use Prim.Native.Nat.{◌+◌, ◌*◌, ◌-◌}
 use native.Mathlib.Omega.{arith}
-use borrow.Author.Rules.{rules}
-use lib.ListN.{length}
-use Rattle.engine.specs.Running.{Ending, Ended}
+use Rattle.engine.specs.Running.{Ending}
 use Rattle.engine.proofs.Engine.{row_inside, last_asks, last_step, last_length}
 use Rattle.engine.proofs.close.Goals as goal
 

@@ -1,11 +1,8 @@
 -- `engine::close` meets its contract: the booths before i are settled at H. Assumes nothing.
-use mathlib.Core.Path.{◌≡◌, refl, sym, ap, ◌∙◌, subst}
-use Prim.Native.Nat.{ℕ, ◌+◌, ◌*◌, ◌-◌, ◌≤◌, ◌<◌}
-use native.Mathlib.Omega.{arith}
-use borrow.Author.Rules.{rules}
+use mathlib.Core.Path.{◌≡◌}
+use Prim.Native.Nat.{◌-◌, ◌≤◌}
 use lib.ListN.{length}
 use Rattle.engine.specs.Running.{Ending, Ended}
-use Rattle.engine.proofs.Engine.{row_inside, last_asks, last_step, last_length}
 use Rattle.engine.proofs.close.Given as goal
 
 abbrev pub invariant-loop-i : goal.invariant-loop-i

@@ -1,8 +1,5 @@
 -- `engine::next_awake` meets its contract: the booths passed sleep at t. Assumes nothing.
 use Prim.Native.Nat.{ℕ, ◌-◌, ◌≤◌, ◌<◌}
-use native.Mathlib.Omega.{arith}
-use borrow.Author.Count.{below_more}
-use borrow.Author.Rules.{rules}
 use lib.ListN.{get_or}
 use Rattle.engine.proofs.next_awake.Given as goal
 

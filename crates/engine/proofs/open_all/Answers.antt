@@ -1,8 +1,6 @@
 -- `engine::open_all` meets its contract: the first j booths are open. Assumes nothing.
-use mathlib.Core.Path.{◌≡◌, refl, sym, ap, ◌∙◌, subst}
-use Prim.Native.Nat.{ℕ, ◌+◌, ◌-◌, ◌≤◌, ◌<◌}
+use mathlib.Core.Path.{◌≡◌, refl, subst}
 use native.Mathlib.Omega.{arith}
-use borrow.Author.Rules.{rules}
 use Rattle.engine.specs.Running.{OpenedTo}
 use Rattle.engine.proofs.Engine.{none_open, one_opened}
 use Rattle.engine.proofs.open_all.Goals as goal
@@ -19,7 +17,7 @@ bounds-lines-j c = omega (arith, c.requires.fit.lines.few)
 pub open-requires : goal.open-requires
 open-requires c =
     let j = c.loop-j.j in
- record {
+    record {
       whole_log = (c.requires.log, c.requires.fit.lines.line j (omega arith));
       by_index = λ at p l e. c.requires.own j at (omega arith) p l e;
     }

@@ -1,10 +1,6 @@
 -- `engine::open_all` meets its contract: the first j booths are open. Assumes nothing.
-use mathlib.Core.Path.{◌≡◌, refl, sym, ap, ◌∙◌, subst}
-use Prim.Native.Nat.{ℕ, ◌+◌, ◌-◌, ◌≤◌, ◌<◌}
-use native.Mathlib.Omega.{arith}
-use borrow.Author.Rules.{rules}
+use Prim.Native.Nat.{◌-◌, ◌≤◌}
 use Rattle.engine.specs.Running.{OpenedTo}
-use Rattle.engine.proofs.Engine.{none_open, one_opened}
 use Rattle.engine.proofs.open_all.Given as goal
 
 abbrev pub invariant-loop-j : goal.invariant-loop-j

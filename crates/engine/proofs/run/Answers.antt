@@ -1,13 +1,11 @@
 -- `engine::run` meets its contract: each way round the loop is one step of the engine. Assumes nothing.
-use mathlib.Core.Path.{◌≡◌, refl, sym, ap, ◌∙◌, subst}
-use mathlib.Core.Bool.{true, false}
+use mathlib.Core.Path.{◌≡◌, sym, ◌∙◌, subst}
 use mathlib.Core.List.{List}
-use Prim.Native.Nat.{ℕ, suc, ◌+◌, ◌*◌, ◌-◌, ◌≤◌, ◌<◌}
+use Prim.Native.Nat.{ℕ, ◌+◌, ◌*◌, ◌-◌, ◌≤◌, ◌<◌}
 use native.Mathlib.Omega.{arith}
-use borrow.Author.Rules.{rules}
-use lib.ListN.{length, get_or, take, drop, set}
+use lib.ListN.{length, get_or, take, drop}
 use Rattle.booth.proofs.OneTurn.{goes_on_asks}
-use Rattle.engine.specs.Running.{nowhere, SleepTo, Running, Ready}
+use Rattle.engine.specs.Running.{nowhere, Running, Ready}
 use Rattle.engine.proofs.Engine.{Going, row_inside, going_first, going_nobody, going_on, turn_asks, going_passed, going_plays, going_on_plays, going_idle, worked_fits}
 use Rattle.engine.proofs.run.Goals as goal
 use Rattle.engine.proofs.run.Goals.{After-next_awake-i, Else-i-n}
@@ -78,12 +76,11 @@ pub loop-t-smaller-then-i-n : goal.loop-t-smaller-then-i-n
 loop-t-smaller-then-i-n c = omega (arith, known (goal.at.loop-t-smaller-then-i-n c).After-next_awake-i)
 
 pub loop-t-preserved-then-i-n : goal.loop-t-preserved-then-i-n
-loop-t-preserved-then-i-n c =
-    (
-      c.sleep_to-soonest.ensures,
-      omega (arith, known (goal.at.loop-t-preserved-then-i-n c).After-next_awake-i),
-      λ e. going_idle (going_nobody (woken (goal.at.loop-t-preserved-then-i-n c).After-next_awake-i e) c.if-i-n.true c.loop-t-test.true) (omega (arith, known (goal.at.loop-t-preserved-then-i-n c).After-next_awake-i)),
-    )
+loop-t-preserved-then-i-n c = (
+  c.sleep_to-soonest.ensures,
+  omega (arith, known (goal.at.loop-t-preserved-then-i-n c).After-next_awake-i),
+  λ e. going_idle (going_nobody (woken (goal.at.loop-t-preserved-then-i-n c).After-next_awake-i e) c.if-i-n.true c.loop-t-test.true) (omega (arith, known (goal.at.loop-t-preserved-then-i-n c).After-next_awake-i)),
+)
 
 -- the turn of booth i
 
@@ -275,7 +272,6 @@ overflow_cast-idle c = omega (arith, c.loop-t.invariant.2 c.requires)
 
 pub returns : goal.returns
 returns c = λ e.
-    
     let l = c.loop-t in
     let g = l.invariant.2 e in
     let done : l.t ≡ c.args.h = omega (arith, g) in

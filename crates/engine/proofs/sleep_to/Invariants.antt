@@ -1,8 +1,5 @@
 -- `engine::sleep_to` meets its contract: no booth that was looked at wakes before. Assumes nothing.
 use Prim.Native.Nat.{ℕ, ◌-◌, ◌≤◌, ◌<◌}
-use native.Mathlib.Omega.{arith}
-use borrow.Author.Count.{below_more}
-use borrow.Author.Rules.{rules}
 use lib.ListN.{get_or}
 use Rattle.engine.proofs.sleep_to.Given as goal
 

@@ -4,7 +4,6 @@ use Rattle.rules.proofs.TwoFiles.{table_refused, log_refused}
 use Rattle.table.proofs.Numbers.{TableTaken, answer_taken, answer_refused}
 use Rattle.arrivals.proofs.LogNumbers.{number_zero, number_not_zero}
 use Rattle.files.proofs.InTurn.{refused_so, lines_taken, taken_so}
-use borrow.Author.Rules.{rules}
 use Rattle.files.proofs.read_files.Goals as goal
 use Rattle.files.proofs.read_files.Goals.{Else-refusal-ne0}
 

@@ -1,9 +1,7 @@
 -- `files::refused_file` meets its contract. Assumes nothing.
-use mathlib.Core.Path.{refl}
 use Rattle.rules.specs.Verdicts.{refused_as}
 use Rattle.rules.specs.Values.{padded, held_table}
 use Rattle.files.specs.Told.{told}
-use borrow.Author.Rules.{rules}
 use Rattle.files.proofs.refused_file.Goals as goal
 
 pub returns : goal.returns

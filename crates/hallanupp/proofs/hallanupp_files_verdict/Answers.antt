@@ -2,7 +2,6 @@
 use mathlib.Core.Path.{ap, ◌∙◌}
 use Rattle.files.proofs.InTurn.{verdict_is}
 use Rattle.hallanupp.specs.VerdictInC.{in_c}
-use borrow.Author.Rules.{rules}
 use Rattle.hallanupp.proofs.hallanupp_files_verdict.Goals as goal
 
 pub returns : goal.returns

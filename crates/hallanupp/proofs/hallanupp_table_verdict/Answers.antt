@@ -3,7 +3,6 @@ use mathlib.Core.Path.{sym, ◌∙◌}
 use Rattle.base.specs.Refusals.{refusal}
 use Rattle.table.proofs.Numbers.{answer_taken, answer_refused}
 use Rattle.hallanupp.proofs.Said.{table_refused, table_taken}
-use borrow.Author.Rules.{rules}
 use Rattle.hallanupp.proofs.hallanupp_table_verdict.Goals as goal
 
 pub returns-then-found-ne0 : goal.returns-then-found-ne0

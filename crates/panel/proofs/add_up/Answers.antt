@@ -1,8 +1,8 @@
 -- `panel::add_up` meets its contract. The loop's invariant: the lanes passed are added up. The measure is the lanes that are left. Assumes nothing.
-use mathlib.Core.Path.{◌≡◌, sym, ap, ◌∙◌}
-use Prim.Native.Nat.{◌*◌, ◌-◌, ◌≤◌, ◌<◌}
+use mathlib.Core.Path.{sym, ap, ◌∙◌}
+use Prim.Native.Nat.{◌≤◌, ◌<◌}
 use native.Mathlib.Omega.{arith}
-use lib.ListN.{length, take}
+use lib.ListN.{length}
 use lib.Seq.{take_all}
 use Rattle.panel.specs.Lanes.{sum}
 use Rattle.panel.proofs.Lanes.{sum_none, sum_more}

@@ -1,11 +1,8 @@
 -- `panel::add_up` meets its contract. The loop's invariant: the lanes passed are added up. The measure is the lanes that are left. Assumes nothing.
-use mathlib.Core.Path.{◌≡◌, sym, ap, ◌∙◌}
-use Prim.Native.Nat.{◌*◌, ◌-◌, ◌≤◌, ◌<◌}
-use native.Mathlib.Omega.{arith}
-use lib.ListN.{length, take}
-use lib.Seq.{take_all}
+use mathlib.Core.Path.{◌≡◌}
+use Prim.Native.Nat.{◌*◌, ◌-◌, ◌≤◌}
+use lib.ListN.{take}
 use Rattle.panel.specs.Lanes.{sum}
-use Rattle.panel.proofs.Lanes.{sum_none, sum_more}
 use Rattle.panel.proofs.add_up.Given as goal
 
 abbrev pub invariant-loop-i : goal.invariant-loop-i

@@ -1,5 +1,4 @@
 -- `panel::call_refused` meets its contract. Assumes nothing.
-use borrow.Author.Rules.{rules}
 use Rattle.base.specs.Refusals.{refusal}
 use Rattle.panel.proofs.call_refused.Goals as goal
 

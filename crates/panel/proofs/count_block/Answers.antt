@@ -1,10 +1,9 @@
 -- `panel::count_block` meets its contract. The loop's invariant: the bytes passed are counted, each in its lane, and the lanes behind them are as
 -- they were. The measure is the bytes that are left. Assumes nothing.
-use mathlib.Core.Logic.{⊎_elim}
-use Prim.Native.Nat.{◌-◌, ◌<◌}
+use Prim.Native.Nat.{◌<◌}
 use native.Mathlib.Omega.{arith}
 use lib.ListN.{length}
-use Rattle.panel.proofs.Lanes.{Counted, none_counted, all_counted, lane_more, lane_same}
+use Rattle.panel.proofs.Lanes.{none_counted, all_counted, lane_more, lane_same}
 use Rattle.panel.proofs.count_block.Goals as goal
 use Rattle.panel.proofs.count_block.Goals.{then-block-i, else-block-i}
 
@@ -29,7 +28,7 @@ loop-i-preserved c =
 pub returns : goal.returns
 returns c =
     let held = c.loop-i.invariant in
- record {
+    record {
       sum = all_counted _ _ _ held (omega arith);
       each = held.each;
     }

@@ -1,5 +1,4 @@
 -- `panel::panel_row` meets its contract: none yet at t = 0, and otherwise the reading of its one division. Assumes nothing.
-use borrow.Author.Rules.{rules}
 use Rattle.rules.specs.Panel.{no_share}
 use Rattle.panel.specs.Shown.{shown_reading, shown_row}
 use Rattle.panel.proofs.Cases.{row_none_yet, row_read}

@@ -1,7 +1,6 @@
 -- `panel::share` meets its contract; its exact case is the law of powers of two. Assumes nothing.
 use mathlib.Core.Path.{refl}
 use native.Mathlib.Omega.{arith}
-use borrow.Author.Rules.{rules}
 use Rattle.rules.specs.Panel.{share}
 use Rattle.panel.proofs.ExactShare.{share_exact}
 use Rattle.panel.proofs.share.Goals as goal
@@ -9,6 +8,6 @@ use Rattle.panel.proofs.share.Goals as goal
 pub returns : goal.returns
 unfolding share
 returns c = record {
-      once = refl;
-      exact = share_exact c.args.part c.args.whole (omega arith) (omega arith);
-    }
+  once = refl;
+  exact = share_exact c.args.part c.args.whole (omega arith) (omega arith);
+}

@@ -1,13 +1,12 @@
 -- `panel::worked_in` meets its contract. The loop's invariant: the blocks passed are counted, at most once in each lane. The measure is the bytes
 -- that are left. Assumes nothing.
 use mathlib.Core.Path.{ap, ◌∙◌}
-use Prim.Native.Nat.{◌-◌, ◌≤◌}
 use native.Mathlib.Omega.{arith}
 use borrow.Author.Rules.{rules}
 use lib.ListN.{length}
 use lib.Seq.{take_all}
 use Rattle.rules.specs.Session.{count}
-use Rattle.panel.proofs.Lanes.{Counting, none_yet, lanes_below, still_below, counted_to, next_block}
+use Rattle.panel.proofs.Lanes.{none_yet, lanes_below, still_below, counted_to, next_block}
 use Rattle.panel.proofs.worked_in.Goals as goal
 
 pub loop-start-init : goal.loop-start-init

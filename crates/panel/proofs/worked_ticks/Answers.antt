@@ -1,11 +1,8 @@
 -- `panel::worked_ticks` meets its contract. The loop's invariant: what is counted is how often the booth stands in the bytes passed.
 -- The measure is the bytes that are left. Assumes nothing.
-use mathlib.Core.Path.{◌≡◌, sym}
-use Prim.Native.Nat.{◌+◌, ◌-◌, ◌≤◌}
+use mathlib.Core.Path.{sym}
+use Prim.Native.Nat.{◌+◌}
 use native.Mathlib.Omega.{arith}
-use borrow.Author.Rules.{rules}
-use lib.ListN.{take}
-use Rattle.rules.specs.Session.{count}
 use Rattle.rules.proofs.Counting.{count_nil}
 use Rattle.panel.proofs.Cases.{count_part, count_within, count_above}
 use Rattle.panel.proofs.worked_ticks.Goals as goal

@@ -1,5 +1,5 @@
 -- `printing::put_digits` meets its contract. It calls itself with a falling `most`. Assumes nothing.
-use Rattle.std.proofs.Common.{ℕ, ◌+◌, ◌-◌, ◌/◌, ◌%◌, ◌<◌, sym, subst, arith}
+use Rattle.std.proofs.Common.{◌+◌, ◌-◌, ◌/◌, ◌%◌, ◌<◌, sym, subst, arith}
 use lib.ListN.{set}
 use Rattle.printing.specs.Put.{Put}
 use Rattle.printing.proofs.Pieces.{put_nothing, push}

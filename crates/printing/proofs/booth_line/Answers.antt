@@ -3,7 +3,6 @@ use native.Mathlib.Omega.{arith}
 use Rattle.rules.specs.Desk as page
 use Rattle.printing.proofs.Pieces.{then}
 use Rattle.printing.proofs.Digits.{labelled_ends}
-use borrow.Author.Rules.{rules}
 use Rattle.printing.proofs.booth_line.Goals as goal
 
 pub put_labelled-second-requires : goal.put_labelled-second-requires

@@ -2,8 +2,6 @@
 use mathlib.Core.Path.{sym}
 use Rattle.rules.specs.Desk as page
 use borrow.Author.Tests.{lt-ltb, le-ltb}
-use borrow.Author.Rules.{rules}
-use borrow.Author.Rules.{rules}
 use Rattle.printing.proofs.letter.Goals as goal
 
 pub returns-then-byte-lt-NO_BOOTH : goal.returns-then-byte-lt-NO_BOOTH

@@ -3,7 +3,6 @@ use native.Mathlib.Omega.{arith}
 use Rattle.rules.specs.Desk as page
 use Rattle.printing.proofs.Pieces.{then}
 use Rattle.printing.proofs.Digits.{labelled_ends}
-use borrow.Author.Rules.{rules}
 use Rattle.printing.proofs.number_line.Goals as goal
 
 pub put-requires : goal.put-requires

@@ -1,11 +1,9 @@
 -- `printing::put` meets its contract: after i turns the first i bytes stand. Assumes nothing.
-use mathlib.Core.Path.{◌≡◌, refl, ◌∙◌}
-use Prim.Native.Nat.{◌+◌, ◌-◌, ◌≤◌}
+use mathlib.Core.Path.{refl, ◌∙◌}
+use Prim.Native.Nat.{◌+◌}
 use native.Mathlib.Omega.{arith}
-use lib.ListN.{length, get_or, take, length-set}
-use Rattle.printing.specs.Put.{Put}
+use lib.ListN.{get_or, length-set}
 use Rattle.printing.proofs.Pieces.{put_first, push_next, put_last}
-use borrow.Author.Rules.{rules}
 use Rattle.printing.proofs.put.Goals as goal
 
 pub loop-i-init : goal.loop-i-init

@@ -1,11 +1,8 @@
 -- `printing::put` meets its contract: after i turns the first i bytes stand. Assumes nothing.
-use mathlib.Core.Path.{◌≡◌, refl, ◌∙◌}
+use mathlib.Core.Path.{◌≡◌}
 use Prim.Native.Nat.{◌+◌, ◌-◌, ◌≤◌}
-use native.Mathlib.Omega.{arith}
-use lib.ListN.{length, get_or, take, length-set}
+use lib.ListN.{length, take}
 use Rattle.printing.specs.Put.{Put}
-use Rattle.printing.proofs.Pieces.{put_first, push_next, put_last}
-use borrow.Author.Rules.{rules}
 use Rattle.printing.proofs.put.Given as goal
 
 abbrev pub invariant-loop-i : goal.invariant-loop-i

@@ -1,7 +1,6 @@
 -- `printing::put_labelled` meets its contract: the word, then its number. Assumes nothing.
 use Rattle.rules.specs.Desk as page
 use Rattle.printing.proofs.Pieces.{then}
-use borrow.Author.Rules.{rules}
 use Rattle.printing.proofs.put_labelled.Goals as goal
 
 pub returns : goal.returns

@@ -1,7 +1,7 @@
 -- `printing::put_letters` meets its contract: after i turns the first i letters stand. Assumes nothing.
 use mathlib.Core.Path.{◌≡◌, refl, sym, ◌∙◌, subst}
 use mathlib.Core.List.{map}
-use Prim.Native.Nat.{◌+◌, ◌-◌, ◌≤◌, ◌<◌}
+use Prim.Native.Nat.{◌+◌, ◌<◌}
 use native.Mathlib.Omega.{arith}
 use lib.ListN.{length, get_or, take, set, length-set, length-map, get_or-map}
 use Rattle.rules.specs.Desk as page

@@ -1,12 +1,10 @@
 -- `printing::put_letters` meets its contract: after i turns the first i letters stand. Assumes nothing.
-use mathlib.Core.Path.{◌≡◌, refl, sym, ◌∙◌, subst}
+use mathlib.Core.Path.{◌≡◌}
 use mathlib.Core.List.{map}
-use Prim.Native.Nat.{◌+◌, ◌-◌, ◌≤◌, ◌<◌}
-use native.Mathlib.Omega.{arith}
-use lib.ListN.{length, get_or, take, set, length-set, length-map, get_or-map}
+use Prim.Native.Nat.{◌+◌, ◌-◌, ◌≤◌}
+use lib.ListN.{length, take}
 use Rattle.rules.specs.Desk as page
 use Rattle.printing.specs.Put.{Put}
-use Rattle.printing.proofs.Pieces.{put_first, push_next, put_last}
 use Rattle.printing.proofs.put_letters.Given as goal
 
 abbrev pub invariant-loop-i : goal.invariant-loop-i

@@ -3,7 +3,6 @@ use native.Mathlib.Omega.{arith}
 use lib.ListN.{length-map}
 use Rattle.rules.specs.Desk as page
 use Rattle.printing.proofs.Pieces.{then}
-use borrow.Author.Rules.{rules}
 use Rattle.printing.proofs.record_line.Goals as goal
 
 pub put-requires : goal.put-requires

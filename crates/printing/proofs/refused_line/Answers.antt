@@ -3,7 +3,6 @@ use native.Mathlib.Omega.{arith}
 use Rattle.rules.specs.Desk as page
 use Rattle.printing.proofs.Pieces.{then}
 use Rattle.printing.proofs.Digits.{labelled_ends}
-use borrow.Author.Rules.{rules}
 use Rattle.printing.proofs.refused_line.Goals as goal
 
 pub number_line-requires : goal.number_line-requires

@@ -1,6 +1,5 @@
 -- `rows::row_fault` meets its contract: each return is the first check that fails. Assumes nothing.
 use native.Mathlib.Omega.{arith}
-use borrow.Author.Rules.{rules}
 use borrow.Author.Tests.{le-leb, lt-leb, lt-ltb, le-ltb}
 use Rattle.base.specs.Refusals.{refuse_if, first_fault, fault_of}
 use Rattle.rules.specs.RowBack.{row_checks}

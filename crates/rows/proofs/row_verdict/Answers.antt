@@ -1,6 +1,5 @@
 -- `rows::row_verdict` meets its contract: the fault found is the verdict's. Assumes nothing.
 use mathlib.Core.Path.{sym, ap, ◌∙◌}
-use borrow.Author.Rules.{rules}
 use Rattle.rules.specs.Verdicts.{refused_as}
 use Rattle.base.proofs.Checks.{nothing_found, fault_found}
 use Rattle.rows.proofs.HandedRow.{row_refused, row_given}

@@ -1,9 +1,7 @@
 -- `session::clocks_of` meets its contract: the first i clocks are noted. Assumes nothing.
-use mathlib.Core.Path.{◌≡◌, refl, sym, ap, ◌∙◌, subst}
+use mathlib.Core.Path.{◌≡◌, refl, ap, ◌∙◌}
 use mathlib.Core.List.{map}
-use Prim.Native.Nat.{ℕ, ◌+◌, ◌-◌, ◌≤◌, ◌<◌}
 use native.Mathlib.Omega.{arith}
-use borrow.Author.Rules.{rules}
 use lib.ListN.{take}
 use Rattle.rules.specs.Values.{padded}
 use Rattle.engine.proofs.Engine.{one_clock}

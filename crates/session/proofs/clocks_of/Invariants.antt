@@ -1,12 +1,9 @@
 -- `session::clocks_of` meets its contract: the first i clocks are noted. Assumes nothing.
-use mathlib.Core.Path.{◌≡◌, refl, sym, ap, ◌∙◌, subst}
+use mathlib.Core.Path.{◌≡◌}
 use mathlib.Core.List.{map}
-use Prim.Native.Nat.{ℕ, ◌+◌, ◌-◌, ◌≤◌, ◌<◌}
-use native.Mathlib.Omega.{arith}
-use borrow.Author.Rules.{rules}
+use Prim.Native.Nat.{◌-◌, ◌≤◌}
 use lib.ListN.{take}
 use Rattle.rules.specs.Values.{padded}
-use Rattle.engine.proofs.Engine.{one_clock}
 use Rattle.session.proofs.clocks_of.Given as goal
 
 abbrev pub invariant-loop-i : goal.invariant-loop-i

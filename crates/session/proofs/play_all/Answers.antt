@@ -1,6 +1,5 @@
 -- `session::play_all` meets its contract: the booths are opened, played and closed, and what is answered is counted. Assumes nothing.
 use Rattle.session.proofs.Played.{ready, ended, answer_is, wall_is, own_is}
-use borrow.Author.Rules.{rules}
 use Rattle.session.proofs.play_all.Goals as goal
 
 pub run-stage-requires : goal.run-stage-requires
@@ -30,7 +29,7 @@ returns c =
       answer = answer_is st.table st.log.now st.wall.now st.own.now st.h pre o.result o.ensures run.result run.new.wall run.new.own through run.auto.own
           x.result x.new.own clocks.result all clocks.ensures;
       wall = wall_is st.table st.log.now st.wall.now st.own.now st.h pre o.result o.ensures run.result run.new.wall run.new.own through run.auto.own
-            x.result x.new.own clocks.result all clocks.ensures;
+          x.result x.new.own clocks.result all clocks.ensures;
       own = own_is st.table st.log.now st.wall.now st.own.now st.h pre o.result o.ensures run.result run.new.wall run.new.own through run.auto.own
-            x.result x.new.own clocks.result all clocks.ensures;
+          x.result x.new.own clocks.result all clocks.ensures;
     }

@@ -1,20 +1,17 @@
 -- `session::session` meets its contract: the files, then the records, then the play, in the rules' order. Assumes nothing.
-use mathlib.Core.Path.{◌≡◌, refl, sym, ap, ◌∙◌}
-use Prim.Native.Nat.{◌*◌, ◌<◌}
+use mathlib.Core.Path.{sym, ap, ◌∙◌}
+use Prim.Native.Nat.{◌*◌}
 use native.Mathlib.Omega.{arith}
 use native.Mathlib.Nat.{mul-le-mul_right}
-use lib.ListN.{length}
 use Rattle.base.specs.Refusals.{refusal}
 use Rattle.rules.specs.Verdicts.{refused_as}
 use Rattle.rules.specs.Session as page
-use Rattle.rules.specs.Values.{lines_held}
 use Rattle.rules.proofs.Fitting.{lines_in}
 use Rattle.arrivals.specs.Places.{log_of}
 use Rattle.files.specs.Told.{FilesTaken}
 use Rattle.session.specs.SessionAnswered.{answered}
 use Rattle.session.proofs.ByCases.{files_refused, wall_short, own_short}
 use Rattle.session.proofs.Played.{refused_all, playable, plays_it}
-use borrow.Author.Rules.{rules}
 use Rattle.session.proofs.session.Goals as goal
 use Rattle.session.proofs.session.Goals.{Else-refusal-ne0}
 
@@ -61,7 +58,7 @@ returns c =
     let st = c.args in
     let whole = plays_it st.table.now st.log.now st.wall.now st.own.now _ (both (goal.at.returns c).Else-refusal-ne0) c.if-wall-h.false c.if-own-lines.false in
     let q = c.play_all.ensures in
- record {
+    record {
       answer = q.answer ∙ sym (ap answered whole);
       wall = q.wall ∙ sym (ap (λ o. o.wall) whole);
       own = q.own ∙ sym (ap (λ o. o.own) whole);

@@ -9,7 +9,6 @@ use Rattle.base.specs.Refusals.{fault_of}
 use Rattle.rules.specs.Values.{lines_held}
 use Rattle.rules.proofs.Fitting.{lines_in, fit_sound}
 use Rattle.solo.proofs.Calls.{promise_in, call_absent, call_many, call_long, call_fits}
-use borrow.Author.Rules.{rules}
 use Rattle.solo.proofs.call_fault.Goals as goal
 use Rattle.solo.proofs.call_fault.Goals.{After-due-all, Else-table-booth}
 

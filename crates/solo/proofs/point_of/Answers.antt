@@ -2,7 +2,6 @@
 use mathlib.Core.Path.{ap, ◌∙◌}
 use native.Mathlib.Omega.{arith}
 use Rattle.rules.specs.Due.{due}
-use borrow.Author.Rules.{rules}
 use Rattle.solo.proofs.point_of.Goals as goal
 
 pub returns : goal.returns

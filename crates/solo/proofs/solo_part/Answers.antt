@@ -14,14 +14,13 @@ use Rattle.arrivals.specs.Places.{entries_of, log_of, waiting_at}
 use Rattle.files.specs.Told.{FilesTaken}
 use Rattle.solo.proofs.Calls.{Fits, call_passed, bad_files, bad_call, part_written}
 use Rattle.solo.proofs.OneBooth.{alone, due_small}
-use borrow.Author.Rules.{rules}
 use Rattle.solo.proofs.solo_part.Goals as goal
 use Rattle.solo.proofs.solo_part.Goals.{Else-refusal-ne0, In_default}
 
 pub returns-then-refusal-ne0 : goal.returns-then-refusal-ne0
 returns-then-refusal-ne0 c =
     let is = bad_files c.args.table.now c.args.log.now c.args.booth c.args.n c.args.part.now _ (c.read_files-files.ensures.refused c.if-refusal-ne0.true) in
- record {
+    record {
       verdict = sym (ap (λ o. o.verdict) is);
       buffer = sym (ap (λ o. o.buffer) is);
     }
@@ -38,7 +37,7 @@ unfolding refused_as log_of
 returns-in-Found c =
     let is = bad_call c.args.table.now c.args.log.now c.args.booth c.args.n c.args.part.now _ _ (both (goal.at.returns-in-Found c).Else-refusal-ne0).read _
     (fault_found _ _ (sym (c.call_fault.ensures c.args.part.now refl) ∙ c.in-Found.is)) in
- record {
+    record {
       verdict = sym (ap (λ o. o.verdict) is);
       buffer = sym (ap (λ o. o.buffer) is);
     }
@@ -78,7 +77,7 @@ returns c =
     let is = part_written c.args.table.now c.args.log.now c.args.booth c.args.n c.args.part.now _ _ (both (goal.at.returns c).Else-refusal-ne0).read (fine (goal.at.returns c).In_default) in
     let buffer = c.write_part.ensures
     ∙ ap (λ l. written 0 (solo l (waiting_at c.args.log.now c.args.booth 9) c.args.n) c.args.part.now) (sym (line_in table c.args.booth (present (goal.at.returns c).In_default))) in
- record {
+    record {
       verdict = (both (goal.at.returns c).Else-refusal-ne0).verdict ∙ sym (ap (λ o. o.verdict) is);
       buffer = buffer ∙ sym (ap (λ o. o.buffer) is);
     }

@@ -1,11 +1,9 @@
 -- `solo::write_part` meets its contract: after u turns the part holds the first u own ticks. Assumes nothing.
 use mathlib.Core.Path.{◌≡◌, refl, ap, ◌∙◌}
-use Prim.Native.Nat.{◌-◌, ◌≤◌}
 use native.Mathlib.Omega.{arith}
 use Rattle.base.specs.Bytes.{written}
 use Rattle.rules.specs.SoloPart.{solo}
 use Rattle.rules.specs.Values.{line_held}
-use Rattle.solo.specs.Alone.{Plays}
 use Rattle.arrivals.specs.Places.{waiting_at}
 use Rattle.arrivals.proofs.PlaceLaws.{first_place}
 use Rattle.rules.proofs.Held.{zeros}

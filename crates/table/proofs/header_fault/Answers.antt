@@ -9,7 +9,6 @@ use Rattle.base.proofs.Checks.{nothing_found, fault_found, first_run, second_run
 use Rattle.rules.specs.FileHead.{head_checks}
 use Rattle.rules.specs.BoothTable.{table_n, header_checks}
 use Rattle.rules.proofs.WholeFile.{head_whole}
-use borrow.Author.Rules.{rules}
 use Rattle.table.proofs.header_fault.Goals as goal
 use Rattle.table.proofs.header_fault.Goals.{In_default}
 

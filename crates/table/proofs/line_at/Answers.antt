@@ -2,7 +2,6 @@
 use Rattle.rules.specs.BoothTable.{line_at, record_l}
 use Rattle.rules.specs.Values.{held_line}
 use Rattle.rules.proofs.Records.{length_jobs}
-use borrow.Author.Rules.{rules}
 use Rattle.table.proofs.line_at.Goals as goal
 
 pub returns : goal.returns

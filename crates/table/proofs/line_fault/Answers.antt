@@ -3,7 +3,6 @@ use borrow.Author.Tests.{eq-eqb, ne_eqb, lt-ltb, le-ltb}
 use Rattle.base.specs.Refusals.{refuse_if, first_fault, fault_of}
 use Rattle.rules.specs.BoothTable.{line_checks}
 use Rattle.rules.specs.Values.{line_held}
-use borrow.Author.Rules.{rules}
 use Rattle.table.proofs.line_fault.Goals as goal
 
 pub returns-then-promise-eq0 : goal.returns-then-promise-eq0

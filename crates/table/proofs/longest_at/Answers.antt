@@ -1,6 +1,5 @@
 -- `table::longest_at` meets its contract: after k turns the array holds the first k jobs. Assumes nothing.
 use mathlib.Core.Path.{◌≡◌, refl, ap, ◌∙◌}
-use Prim.Native.Nat.{◌≤◌, ◌-◌}
 use native.Mathlib.Omega.{arith}
 use borrow.Author.Rules.{rules}
 use Rattle.rules.specs.BoothTable.{jobs_at}

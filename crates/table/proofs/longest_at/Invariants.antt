@@ -1,11 +1,8 @@
 -- `table::longest_at` meets its contract: after k turns the array holds the first k jobs. Assumes nothing.
-use mathlib.Core.Path.{◌≡◌, refl, ap, ◌∙◌}
+use mathlib.Core.Path.{◌≡◌}
 use Prim.Native.Nat.{◌≤◌, ◌-◌}
-use native.Mathlib.Omega.{arith}
-use borrow.Author.Rules.{rules}
 use Rattle.rules.specs.BoothTable.{jobs_at}
 use Rattle.rules.specs.Values.{padded}
-use Rattle.table.proofs.Lines.{job_stored}
 use Rattle.table.proofs.longest_at.Given as goal
 
 abbrev pub invariant-loop-k : goal.invariant-loop-k

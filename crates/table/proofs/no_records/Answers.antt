@@ -1,7 +1,6 @@
 -- `table::no_records` meets its contract. Assumes nothing.
 use Rattle.rules.specs.Values.{padded, held_table}
 use Rattle.table.specs.TableAnswered.{no_records}
-use borrow.Author.Rules.{rules}
 use Rattle.table.proofs.no_records.Goals as goal
 
 pub returns : goal.returns

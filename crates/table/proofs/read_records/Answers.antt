@@ -1,12 +1,10 @@
 -- `table::read_records` meets its contract: the reader stands where the rules still have to read. Assumes nothing.
 use mathlib.Core.Path.{sym, ap, ◌∙◌, subst}
-use mathlib.Core.Option.{none}
-use Prim.Native.Nat.{◌+◌, ◌-◌}
+use Prim.Native.Nat.{◌+◌}
 use native.Mathlib.Omega.{arith}
-use borrow.Author.Rules.{rules}
-use lib.ListN.{length, set}
+use lib.ListN.{set}
 use Rattle.base.specs.Refusals.{fault_of, refusal}
-use Rattle.rules.specs.BoothTable.{no_line, record_l, record_end}
+use Rattle.rules.specs.BoothTable.{record_l, record_end}
 use Rattle.base.proofs.Checks.{nothing_found, fault_found}
 use Rattle.table.specs.TableAnswered.{no_records}
 use Rattle.table.proofs.Reading.{Standing, records_full, records_fault, stands_on, stands_first, stands_refused, stands_done}

@@ -10,7 +10,6 @@ use Rattle.rules.proofs.Held.{lines_held_lem}
 use Rattle.table.specs.TableAnswered.{answered}
 use Rattle.admission.specs.NotAdmitted.{not_admitted_at}
 use Rattle.table.proofs.Reading.{header_refused, records_refused, records_taken, admission_refused, admitted, refused_answer}
-use borrow.Author.Rules.{rules}
 use Rattle.table.proofs.read_table.Goals as goal
 
 pub returns-in-Found : goal.returns-in-Found
@@ -55,7 +54,7 @@ returns c =
     (ap (λ a. not_admitted_at a.starts (first_failing 0 [] (lines_of lines.records))) (sym read.ensures.read)
     ∙ ap (λ ls. not_admitted_at read.result.starts (first_failing 0 [] ls)) (sym held)
     ∙ nothing_found _ (sym c.admission_fault.ensures ∙ c.in_default-admission_fault.is)) in
- record {
+    record {
       read = ap (λ t. record { refusal = record { number = 0; place = 0 }; table = t }) table ∙ sym (ap answered taken);
       fit = read.ensures.fit;
     }

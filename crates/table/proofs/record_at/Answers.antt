@@ -12,7 +12,6 @@ use Rattle.rules.proofs.Held.{line_held_lem}
 use Rattle.rules.proofs.Records.{length_jobs}
 use Rattle.table.proofs.Lines.{too_short, too_long, odd, allowed}
 use Rattle.table.proofs.Reading.{record_refused}
-use borrow.Author.Rules.{rules}
 use Rattle.table.proofs.record_at.Goals as goal
 
 pub returns-then-l-lt-LEAST_LENGTH : goal.returns-then-l-lt-LEAST_LENGTH
@@ -64,7 +63,7 @@ returns c =
     let at = c.args.at in
     let w = c.wide-l in
     let fine : length_allowed (get_or bs at 0) ≡ true = ap length_allowed (sym w.ensures.0) ∙ allowed w.result (omega arith) (omega arith) c.if-l-ne0.false in
- record {
+    record {
       fault = simp (c.line_fault-fault.ensures, c.line_at-line.ensures, line_held_lem, fine, le-ltb (length bs) (at + 1 + get_or bs at 0) (omega (arith, w.ensures.0)));
       line = λ passed. c.line_at-line.ensures;
     }

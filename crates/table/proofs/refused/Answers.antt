@@ -1,7 +1,6 @@
 -- `table::refused` meets its contract. Assumes nothing.
 use mathlib.Core.Path.{ap}
 use Rattle.table.specs.TableAnswered.{no_records, refused_table}
-use borrow.Author.Rules.{rules}
 use Rattle.table.proofs.refused.Goals as goal
 
 pub returns : goal.returns

@@ -1,11 +1,10 @@
 -- `table::some_zero` meets its contract: no job before k is 0. Assumes nothing.
-use mathlib.Core.Path.{◌≡◌, refl, sym, ◌∙◌}
-use Prim.Native.Nat.{◌≤◌, ◌-◌, ◌<◌}
+use mathlib.Core.Path.{refl, sym, ◌∙◌}
+use Prim.Native.Nat.{◌<◌}
 use native.Mathlib.Omega.{arith}
 use borrow.Author.Rules.{rules}
-use lib.ListN.{length, take, drop, length-take}
+use lib.ListN.{length, take, length-take}
 use lib.Seq.{get_or-take}
-use Rattle.rules.specs.BoothTable.{some_zero}
 use Rattle.table.proofs.Lines.{zero_from, zero_here, zero_none}
 use Rattle.table.proofs.some_zero.Goals as goal
 

@@ -1,12 +1,8 @@
 -- `table::some_zero` meets its contract: no job before k is 0. Assumes nothing.
-use mathlib.Core.Path.{◌≡◌, refl, sym, ◌∙◌}
-use Prim.Native.Nat.{◌≤◌, ◌-◌, ◌<◌}
-use native.Mathlib.Omega.{arith}
-use borrow.Author.Rules.{rules}
-use lib.ListN.{length, take, drop, length-take}
-use lib.Seq.{get_or-take}
+use mathlib.Core.Path.{◌≡◌}
+use Prim.Native.Nat.{◌≤◌, ◌-◌}
+use lib.ListN.{take, drop}
 use Rattle.rules.specs.BoothTable.{some_zero}
-use Rattle.table.proofs.Lines.{zero_from, zero_here, zero_none}
 use Rattle.table.proofs.some_zero.Given as goal
 
 abbrev pub invariant-loop-k : goal.invariant-loop-k

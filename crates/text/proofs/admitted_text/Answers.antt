@@ -1,12 +1,10 @@
 -- `text::admitted_text` meets its contract: admitted, wall, the booths, idle. Assumes nothing.
-use mathlib.Core.Path.{sym}
 use native.Mathlib.Omega.{arith}
 use lib.Seq.{length-take-le}
 use Rattle.printing.proofs.Pieces.{then}
 use Rattle.text.specs.TextAnswered.{answer_text}
 use Rattle.printing.proofs.LineLengths.{number_line_ends, record_line_ends}
 use Rattle.text.proofs.BoothLines.{booth_lines_end}
-use borrow.Author.Rules.{rules}
 use Rattle.text.proofs.admitted_text.Goals as goal
 
 pub record_line-second-requires : goal.record_line-second-requires

@@ -1,11 +1,10 @@
 -- `text::booth_lines` meets its contract: after i turns the lines of the first i booths stand. Assumes nothing.
 use mathlib.Core.Path.{◌≡◌, refl, sym, ◌∙◌, subst}
-use Prim.Native.Nat.{◌-◌, ◌≤◌}
+use Prim.Native.Nat.{◌≤◌}
 use native.Mathlib.Omega.{arith}
 use lib.ListN.{length, get_or}
 use Rattle.rules.specs.RowBack.{row_back}
 use Rattle.rules.specs.Desk as page
-use borrow.Author.Rules.{rules}
 use Rattle.printing.proofs.Pieces.{put_nothing, then}
 use Rattle.printing.specs.Put.{Put}
 use Rattle.text.proofs.BoothLines.{row_short, booth_lines_end, booth_lines_more}

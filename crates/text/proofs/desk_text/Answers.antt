@@ -7,7 +7,6 @@ use lib.Seq.{length-take-le, take_all}
 use Rattle.base.specs.Refusals.{refusal}
 use Rattle.rules.specs.Desk as page
 use Rattle.text.proofs.Printed.{too_long, in_two_files, buffer_short, text_put}
-use borrow.Author.Rules.{rules}
 use Rattle.text.proofs.desk_text.Goals as goal
 
 pub returns-then-out-lt-TEXT_ROOM : goal.returns-then-out-lt-TEXT_ROOM

@@ -1,14 +1,12 @@
 -- `text::session_text` meets its contract. Assumes nothing.
-use mathlib.Core.Path.{◌≡◌, ap, ◌∙◌, subst}
+use mathlib.Core.Path.{◌≡◌, ◌∙◌, subst}
 use native.Mathlib.Omega.{arith}
 use Prim.Native.Nat.{ℕ}
 use lib.ListN.{length, length-replicate}
 use Rattle.rules.specs.Desk as page
 use Rattle.session.specs.SessionAnswered.{answered}
 use Rattle.printing.specs.Put.{Put}
-use Rattle.text.specs.TextAnswered.{answer_text}
 use Rattle.text.proofs.Printed.{desk_outcome, answer_fits, table_prints, log_prints, call_prints, session_prints}
-use borrow.Author.Rules.{rules}
 use Rattle.text.proofs.session_text.Goals as goal
 
 pub admitted_text-requires : goal.admitted_text-requires

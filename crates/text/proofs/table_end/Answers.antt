@@ -5,7 +5,6 @@ use Prim.Native.Nat.{◌+◌}
 use native.Mathlib.Omega.{arith}
 use Rattle.rules.specs.FileHead.{head_n}
 use Rattle.rules.specs.Desk as page
-use borrow.Author.Rules.{rules}
 use Rattle.text.proofs.table_end.Goals as goal
 
 pub returns-then-all-lt3 : goal.returns-then-all-lt3

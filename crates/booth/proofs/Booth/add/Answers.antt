@@ -1,11 +1,10 @@
 -- `booth::Booth::add` meets its contract. Assumes nothing.
-use mathlib.Core.Path.{◌≡◌, sym, ap, ◌∙◌}
-use Prim.Native.Nat.{ℕ, ◌+◌, ◌<◌}
+use mathlib.Core.Path.{ap, ◌∙◌}
+use Prim.Native.Nat.{◌+◌}
 use native.Mathlib.Omega.{arith}
 use lib.ListN.{length, get_or, set, length-set}
-use Rattle.booth.specs.BoothHeld.{owed, demanding}
+use Rattle.booth.specs.BoothHeld.{demanding}
 use Rattle.booth.proofs.Demand.{owed_eight}
-use borrow.Author.Rules.{rules}
 use Rattle.booth.proofs.Booth.add.Goals as goal
 
 pub bounds-all-k : goal.bounds-all-k

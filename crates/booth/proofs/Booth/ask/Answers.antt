@@ -1,8 +1,8 @@
 -- `booth::Booth::ask` meets its contract: the booth settles and, if its answer is a task, works. Assumes nothing.
-use mathlib.Core.Path.{◌≡◌, refl, sym, ap, ◌∙◌, subst}
+use mathlib.Core.Path.{◌≡◌, refl, sym, ◌∙◌, subst}
 use mathlib.Core.Bool.{true, false, true≢false}
 use mathlib.Core.List.{[]}
-use Prim.Native.Nat.{ℕ, suc, ◌+◌, ◌≤◌, ◌<◌}
+use Prim.Native.Nat.{suc, ◌≤◌}
 use native.Mathlib.Omega.{arith}
 use Rattle.rules.specs.BoothTable.{Line}
 use Rattle.rules.specs.Due.{due}
@@ -13,7 +13,6 @@ use Rattle.booth.specs.BoothHeld.{shown, settled_answer, asked}
 use Rattle.booth.proofs.RowWritten.{agree_later}
 use Rattle.booth.proofs.OneTurn.{chosen_first, asked_rests, asked_works}
 use Rattle.booth.proofs.Working.{opens_from}
-use borrow.Author.Rules.{rules}
 use Rattle.booth.proofs.Booth.ask.Goals as goal
 
 pub wakes-wakes-requires : goal.wakes-wakes-requires

@@ -1,15 +1,14 @@
 -- `booth::Booth::catch_up` meets its contract: taking entries one by one, then resting, is document 01's settle. Assumes nothing.
-use mathlib.Core.Path.{◌≡◌, refl, sym, ap, ◌∙◌, subst}
-use Prim.Native.Nat.{ℕ, ◌+◌, ◌-◌, ◌≤◌, ◌<◌}
+use mathlib.Core.Path.{◌≡◌, sym, ap, ◌∙◌, subst}
+use Prim.Native.Nat.{◌+◌, ◌-◌, ◌≤◌}
 use native.Mathlib.Omega.{arith}
-use borrow.Author.Rules.{rules}
-use lib.ListN.{length, drop}
+use lib.ListN.{drop}
 use Rattle.rules.specs.declared.Promise.{Promise}
 use Rattle.rules.specs.Due.{due}
 use Rattle.booth.specs.declared.Booth.{Booth}
 use Rattle.booth.specs.BoothHeld.{shown, clock_at, Fit}
 use Rattle.booth.proofs.Taking.{fit_moved}
-use Rattle.booth.proofs.Settling.{near, Settling, settles_first, settles_on, due_fits, settled_busy, settled_free, takes_inside, point_due, behind_moved}
+use Rattle.booth.proofs.Settling.{near, settles_first, settles_on, due_fits, settled_busy, settled_free, takes_inside, point_due, behind_moved}
 use Rattle.booth.proofs.Booth.catch_up.Goals as goal
 
 pub loop-row-init : goal.loop-row-init
@@ -26,7 +25,7 @@ take_next-self-requires c =
     let test = sym c.takes.ensures ∙ c.loop-row-test.true in
     let more = takes_inside bs h row t s.fit c.requires.2 test in
     let due-by = point_due bs h row t s.fit more test in
- record {
+    record {
       whole_log = (c.requires.0, s.fit, more);
       clock_in_bounds = (fits.0, omega (arith, fits.1, due-by), near h.promise h.point.0 t s.fit.steady.sound s.fit.steady.short c.requires.2 due-by);
     }
@@ -69,7 +68,7 @@ pass-self-requires c =
     let fits = due_fits bs t c.args.self c.args.row.now h row s c.requires.3 in
     let test = sym c.takes.ensures ∙ c.loop-row-test.false in
     let steady = s.fit.steady in
- record {
+    record {
       clock_in_bounds = (fits.0, omega (arith, fits.1, c.due-to.ensures));
       allowance_nonzero = (steady.sound.allowance, steady.opens, near h.promise c.due-to.result.0 t steady.sound steady.short c.requires.2 (omega (arith, c.due-to.ensures)));
     }
@@ -100,13 +99,13 @@ returns-then-self-eq-NO_TASK c =
         cap = rw clock (subst (λ (p : Promise). h.clock.0 + (v - h.clock.0) ≤ due p t) s.stays.promise cap);
       };
       state = λ l q.
-            ap (λ (x : Booth). shown l bs x pass.new.row) pass.ensures.state
-            ∙ ap (shown l bs (clock_at h (h.clock.0 + (v - h.clock.0)))) pass.ensures.row
-            ∙ settled_free bs t c.args.self c.args.row.now h row s fits.0 c.requires.0 c.requires.1 c.requires.4 test l q c.if-self-eq-NO_TASK.true v point;
+          ap (λ (x : Booth). shown l bs x pass.new.row) pass.ensures.state
+          ∙ ap (shown l bs (clock_at h (h.clock.0 + (v - h.clock.0)))) pass.ensures.row
+          ∙ settled_free bs t c.args.self c.args.row.now h row s fits.0 c.requires.0 c.requires.1 c.requires.4 test l q c.if-self-eq-NO_TASK.true v point;
       row = ap (λ u. drop u pass.new.row) clock
-            ∙ ap (drop (h.clock.0 + (v - h.clock.0))) pass.ensures.row
-            ∙ behind_moved bs t c.args.self c.args.row.now h row s fits.0 v
-            ∙ ap (λ u. drop u c.args.row.now) (sym clock);
+          ∙ ap (drop (h.clock.0 + (v - h.clock.0))) pass.ensures.row
+          ∙ behind_moved bs t c.args.self c.args.row.now h row s fits.0 v
+          ∙ ap (λ u. drop u c.args.row.now) (sym clock);
     }
 
 pub returns-else-self-eq-NO_TASK : goal.returns-else-self-eq-NO_TASK

@@ -1,9 +1,7 @@
 -- `booth::Booth::choose` meets its contract. Assumes nothing.
-use Prim.Native.Nat.{suc, ◌≤◌, ◌<◌}
 use native.Mathlib.Omega.{arith}
 use Rattle.laws.proofs.DueLaws.{laws_of_due, not_yet_due}
 use Rattle.booth.proofs.Working.{opens_from, answers_none, answers_late, answers_task}
-use borrow.Author.Rules.{rules}
 use Rattle.booth.proofs.Booth.choose.Goals as goal
 
 pub returns-then-first-eq-NO_TASK : goal.returns-then-first-eq-NO_TASK

@@ -1,10 +1,9 @@
 -- `Booth::demanding` meets its contract. Assumes nothing.
-use mathlib.Core.Path.{◌≡◌, refl, sym, ap, ◌∙◌}
+use mathlib.Core.Path.{sym, ap, ◌∙◌}
 use native.Mathlib.Omega.{arith}
-use lib.ListN.{length, get_or, get_or-eq_default}
+use lib.ListN.{get_or, get_or-eq_default}
 use Rattle.rules.specs.Moves.{first_task}
 use Rattle.booth.specs.BoothHeld.{demanding}
-use borrow.Author.Rules.{rules}
 use Rattle.booth.proofs.Booth.demanding.Goals as goal
 
 pub returns-then-first-ge-TASKS_ALLOWED : goal.returns-then-first-ge-TASKS_ALLOWED

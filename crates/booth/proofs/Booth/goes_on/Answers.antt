@@ -1,10 +1,8 @@
 -- `Booth::goes_on` meets its contract: the tests of the code are those of the definition, in its order. Assumes nothing.
-use mathlib.Core.Path.{◌≡◌, refl, sym, ap, ◌∙◌}
-use mathlib.Core.Bool.{true, false, not, ◌&&◌}
+use mathlib.Core.Path.{sym, ◌∙◌}
 use native.Mathlib.Omega.{arith}
 use borrow.Author.Tests.{lt-leb, le-leb, eq-eqb, ne_eqb, lt-ltb, le-ltb}
 use Rattle.booth.specs.BoothHeld.{goes_on}
-use borrow.Author.Rules.{rules}
 use Rattle.booth.proofs.Booth.goes_on.Goals as goal
 
 pub returns-then-self-eq-NO_TASK : goal.returns-then-self-eq-NO_TASK

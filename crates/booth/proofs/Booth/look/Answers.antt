@@ -1,10 +1,8 @@
 -- `booth::Booth::look` meets its contract. Assumes nothing.
-use mathlib.Core.Path.{◌≡◌, refl, ap, ◌∙◌}
-use Prim.Native.Nat.{◌<◌}
+use mathlib.Core.Path.{refl, ap, ◌∙◌}
 use native.Mathlib.Omega.{arith}
 use Rattle.rules.specs.Due.{due}
-use Rattle.booth.specs.BoothHeld.{looking_at, Looked, Waits, Next}
-use borrow.Author.Rules.{rules}
+use Rattle.booth.specs.BoothHeld.{looking_at}
 use Rattle.booth.proofs.Booth.look.Goals as goal
 
 pub returns-then-log-at : goal.returns-then-log-at

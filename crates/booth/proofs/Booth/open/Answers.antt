@@ -1,6 +1,5 @@
 -- `Booth::open` meets its contract. Assumes nothing.
-use mathlib.Core.Path.{◌≡◌, subst}
-use Prim.Native.Nat.{◌≤◌}
+use mathlib.Core.Path.{subst}
 use native.Mathlib.Omega.{arith}
 use Rattle.rules.specs.declared.Opens.{Opens}
 use Rattle.laws.proofs.DueLaws.{due_zero}

@@ -3,7 +3,6 @@ use mathlib.Core.Path.{refl, sym}
 use native.Mathlib.Omega.{arith}
 use lib.Seq.{set_out}
 use Rattle.booth.specs.BoothHeld.{owed}
-use borrow.Author.Rules.{rules}
 use Rattle.booth.proofs.Booth.owed.Goals as goal
 
 pub returns-then-first-ge-TASKS_ALLOWED : goal.returns-then-first-ge-TASKS_ALLOWED

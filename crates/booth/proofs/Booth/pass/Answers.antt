@@ -1,15 +1,13 @@
 -- `booth::Booth::pass` meets its contract. Assumes nothing.
-use mathlib.Core.Path.{◌≡◌, refl, sym, ap, ◌∙◌}
-use mathlib.Core.List.{List, [], ◌∷◌}
-use Prim.Native.Nat.{ℕ, ◌+◌, ◌-◌, ◌≤◌, ◌<◌}
+use mathlib.Core.Path.{◌≡◌, sym, ap, ◌∙◌}
+use Prim.Native.Nat.{◌+◌, ◌-◌}
 use native.Mathlib.Omega.{arith}
-use lib.ListN.{length, replicate}
+use lib.ListN.{replicate}
 use borrow.Rule.Slice.PartMut.{mid_len}
 use Rattle.rules.specs.Opens.{opens_at}
 use Rattle.booth.specs.declared.Booth.{Booth}
 use Rattle.booth.specs.BoothHeld.{clock_at, lengthened}
 use Rattle.booth.proofs.RowWritten.{written_none, part_silenced}
-use borrow.Author.Rules.{rules}
 use Rattle.booth.proofs.Booth.pass.Goals as goal
 
 -- a clock that stands where it stood

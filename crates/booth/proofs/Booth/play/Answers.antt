@@ -1,16 +1,15 @@
 -- `booth::Booth::play` meets its contract. Assumes nothing.
 use mathlib.Core.Path.{◌≡◌, sym, ap, ◌∙◌, subst}
 use mathlib.Core.List.{List}
-use Prim.Native.Nat.{ℕ, ◌+◌, ◌-◌, ◌≤◌, ◌<◌}
+use Prim.Native.Nat.{ℕ, ◌<◌}
 use native.Mathlib.Omega.{arith}
-use lib.ListN.{length, get_or, drop, set}
+use lib.ListN.{length, drop, set}
 use lib.Seq.{drop-set-lt}
 use Rattle.booth.specs.declared.Booth.{Booth}
 use Rattle.booth.specs.BoothHeld.{owed, shown, Steady, played_on, demanding}
 use Rattle.rules.proofs.FirstDemand.{First}
 use Rattle.booth.proofs.Demand.{owed_eight}
 use Rattle.booth.proofs.Working.{Played, played_on_lem, played_out, held_first, shown_worked, after_play}
-use borrow.Author.Rules.{rules}
 use Rattle.booth.proofs.Booth.play.Goals as goal
 
 -- the task that is played is the first with demand

@@ -1,6 +1,6 @@
 -- `Booth::play_on` meets its contract. Assumes nothing.
-use mathlib.Core.Path.{◌≡◌, refl, sym, ap, ◌∙◌}
-use Prim.Native.Nat.{suc, ◌+◌, ◌-◌, ◌<◌}
+use mathlib.Core.Path.{sym, ap, ◌∙◌}
+use Prim.Native.Nat.{◌+◌, ◌-◌, ◌<◌}
 use native.Mathlib.Numerals.{add-one}
 use native.Mathlib.Omega.{arith}
 use lib.ListN.{set}
@@ -8,9 +8,8 @@ use Rattle.rules.specs.Opens.{opens_at}
 use Rattle.rules.proofs.NextOpens.{lies_in}
 use Rattle.booth.specs.declared.Booth.{Booth}
 use Rattle.booth.specs.BoothHeld.{Steady, played_on}
-use Rattle.booth.proofs.Demand.{owed_eight, owed_first}
+use Rattle.booth.proofs.Demand.{owed_first}
 use Rattle.booth.proofs.Working.{held_first}
-use borrow.Author.Rules.{rules}
 use Rattle.booth.proofs.Booth.play_on.Goals as goal
 
 -- the first task has some left
@@ -33,7 +32,7 @@ unfolding played_on
 returns c =
     let h = c.args.self in
     let lies = c.opens_next-self.ensures h.clock.0 c.requires.0.opens ∙ ap (opens_at h.promise) (sym (add-one h.clock.0)) in
- record {
+    record {
       state = ap (λ o. record { number = h.number; tasks = h.tasks; demand = h.demand; first = h.first; left = h.left - 1; at = h.at; promise = h.promise; clock = record { 0 = h.clock.0 + 1 }; opens = o; tick = h.tick; point = h.point }) lies;
       row = ap (set c.args.row.now h.clock.0) c.requires.2;
     }

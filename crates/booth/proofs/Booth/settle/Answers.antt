@@ -2,7 +2,6 @@
 use mathlib.Core.Path.{refl, sym, ◌∙◌}
 use native.Mathlib.Omega.{arith}
 use Rattle.booth.proofs.Settling.{settles_first, due_fits, settled_busy}
-use borrow.Author.Rules.{rules}
 use Rattle.booth.proofs.Booth.settle.Goals as goal
 
 pub returns-then-self-ne-NO_TASK : goal.returns-then-self-ne-NO_TASK

@@ -1,15 +1,13 @@
 -- `booth::Booth::take_next` meets its contract: the moves of the code, one after the other, are the rule's. Assumes nothing.
-use mathlib.Core.Path.{◌≡◌, refl, sym, ap, ◌∙◌, subst}
-use Prim.Native.Nat.{ℕ, ◌+◌, ◌-◌, ◌≤◌, ◌<◌}
+use mathlib.Core.Path.{◌≡◌, sym, ap, ◌∙◌, subst}
+use Prim.Native.Nat.{ℕ, ◌+◌, ◌-◌}
 use native.Mathlib.Omega.{arith}
 use lib.ListN.{length, get_or, set}
 use Rattle.rules.specs.InRange.{Sound}
 use Rattle.arrivals.proofs.PlaceLaws.{whole_entry}
 use Rattle.booth.specs.declared.Booth.{Booth}
-use Rattle.rules.specs.Moves.{first_task}
 use Rattle.booth.specs.BoothHeld.{owed, shown, Looked, looking_at, demanding, clock_at}
 use Rattle.booth.proofs.Taking.{entry_of, added, own_task, owed_moved, shown_taken, fit_taken}
-use borrow.Author.Rules.{rules}
 use Rattle.booth.proofs.Booth.take_next.Goals as goal
 
 pub entry_task-k-requires : goal.entry_task-k-requires
@@ -21,7 +19,7 @@ entry_demand-d-requires c = (whole_entry c.args.log.now c.args.self.at c.require
 pub pass-self-requires : goal.pass-self-requires
 pass-self-requires c =
     let s = c.requires.whole_log.1.steady in
- record {
+    record {
       clock_in_bounds = (c.requires.clock_in_bounds.0, c.requires.clock_in_bounds.1);
       allowance_nonzero = (s.sound.allowance, s.opens, c.requires.clock_in_bounds.2);
     }

@@ -1,6 +1,4 @@
 -- `booth::Booth::takes` meets its contract: the tests of the code are those of the rule, in its order. Assumes nothing.
-use mathlib.Core.Path.{◌≡◌, refl, sym}
-use native.Mathlib.Omega.{arith}
 use borrow.Author.Tests.{lt-leb, le-leb, eq-eqb, ne_eqb}
 use Rattle.booth.specs.BoothHeld.{takes_next}
 use Rattle.booth.proofs.Booth.takes.Goals as goal

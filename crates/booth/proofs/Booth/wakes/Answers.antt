@@ -1,9 +1,7 @@
 -- `booth::Booth::wakes` meets its contract. Assumes nothing.
-use mathlib.Core.Path.{◌≡◌}
 use borrow.Author.Tests.{eq-eqb, ne_eqb}
 use Rattle.booth.specs.BoothHeld.{wakes_at}
 use Rattle.booth.proofs.Working.{opens_from}
-use borrow.Author.Rules.{rules}
 use Rattle.booth.proofs.Booth.wakes.Goals as goal
 
 pub returns-then-self-eq-NO_TASK : goal.returns-then-self-eq-NO_TASK

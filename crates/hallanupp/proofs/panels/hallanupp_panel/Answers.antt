@@ -1,6 +1,5 @@
 -- `hallanupp_panel` meets its contract: the row in C, and a tick that does not fit is answered as another of its kind. Assumes nothing.
 use Rattle.hallanupp.proofs.InC.{panel_said}
-use borrow.Author.Rules.{rules}
 use Rattle.hallanupp.proofs.panels.hallanupp_panel.Goals as goal
 
 pub returns : goal.returns

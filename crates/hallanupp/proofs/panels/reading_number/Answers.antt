@@ -1,7 +1,6 @@
 -- `reading_number` meets its contract: each arm is a case of the definition. Assumes nothing.
 use mathlib.Core.Path.{sym, ap}
 use Rattle.hallanupp.specs.PanelInC.{reading_in_c}
-use borrow.Author.Rules.{rules}
 use Rattle.hallanupp.proofs.panels.reading_number.Goals as goal
 
 pub returns-in-NoneYet : goal.returns-in-NoneYet

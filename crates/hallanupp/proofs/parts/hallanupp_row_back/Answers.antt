@@ -2,12 +2,12 @@
 use native.Mathlib.Omega.{arith}
 use Rattle.rows.proofs.HandedRow.{start_small}
 use Rattle.hallanupp.proofs.InC.{said_of, row_none, row_inside, row_there}
-use borrow.Author.Rules.{rules}
 use Rattle.hallanupp.proofs.parts.hallanupp_row_back.Goals as goal
 
 pub returns-then-verdict-ne0 : goal.returns-then-verdict-ne0
-returns-then-verdict-ne0 c = let both = row_none _ _ _ _ _ (said_of _ _ _ c.in_c-verdict.ensures c.row_verdict.ensures) c.if-verdict-ne0.true in
-    record { row = both.0; part = both.1 }
+returns-then-verdict-ne0 c =
+    let none = row_none _ _ _ _ _ (said_of _ _ _ c.in_c-verdict.ensures c.row_verdict.ensures) c.if-verdict-ne0.true in
+    record { row = none.0; part = none.1 }
 
 pub overflow_mul-start : goal.overflow_mul-start
 overflow_mul-start c =
@@ -15,5 +15,6 @@ overflow_mul-start c =
     omega (arith, start_small _ _ h.few h.long)
 
 pub returns : goal.returns
-returns c = let both = row_there _ _ _ _ _ (said_of _ _ _ c.in_c-verdict.ensures c.row_verdict.ensures) c.if-verdict-ne0.false in
-    record { row = both.0; part = both.1 }
+returns c =
+    let there = row_there _ _ _ _ _ (said_of _ _ _ c.in_c-verdict.ensures c.row_verdict.ensures) c.if-verdict-ne0.false in
+    record { row = there.0; part = there.1 }

@@ -1,7 +1,6 @@
 -- `hallanupp_solo_part` meets its contract: the verdict in C, and the buffer as `solo_part` leaves it. Assumes nothing.
 use Rattle.rules.specs.SoloPart.{ask_solo}
 use Rattle.hallanupp.proofs.InC.{said_of}
-use borrow.Author.Rules.{rules}
 use Rattle.hallanupp.proofs.parts.hallanupp_solo_part.Goals as goal
 
 pub returns : goal.returns
@@ -9,7 +8,7 @@ returns c =
     let a = c.args in
     let solo = c.solo_part in
     let answer = ask_solo a.table.now a.log.now a.booth a.n a.part.now in
- record {
+    record {
       verdict = said_of _ solo.result answer.verdict c.in_c.ensures solo.ensures.verdict;
       buffer = solo.ensures.buffer;
     }

@@ -3,7 +3,6 @@ use mathlib.Core.Path.{◌∙◌}
 use Rattle.rules.specs.declared.Refused.TheVariants.{Nothing, TheTable, TheLog, TheCall}
 use Rattle.hallanupp.specs.VerdictInC.{what_in_c}
 use Rattle.hallanupp.proofs.InC.{told}
-use borrow.Author.Rules.{rules}
 use Rattle.hallanupp.proofs.parts.in_c.Goals as goal
 
 pub returns-in-Nothing : goal.returns-in-Nothing

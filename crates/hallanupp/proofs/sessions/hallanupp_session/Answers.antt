@@ -1,7 +1,6 @@
 -- `hallanupp_session` meets its contract: the session's answer, field by field. Assumes nothing.
-use mathlib.Core.Path.{◌≡◌, ap, ◌∙◌}
+use mathlib.Core.Path.{ap, ◌∙◌}
 use Rattle.hallanupp.specs.SessionInC.{session_in_c}
-use borrow.Author.Rules.{rules}
 use Rattle.hallanupp.proofs.sessions.hallanupp_session.Goals as goal
 
 pub returns : goal.returns

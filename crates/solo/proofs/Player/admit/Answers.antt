@@ -1,6 +1,5 @@
 -- `solo::Player::admit` meets its contract: each entry that is passed was reached, and the one it stops at was not. Assumes nothing.
-use Prim.Native.Nat.{◌-◌, ◌<◌}
-use Rattle.solo.specs.Alone.{Plays}
+use Prim.Native.Nat.{◌<◌}
 use Rattle.solo.proofs.Playing.{there, plays_on}
 use native.Mathlib.Omega.{arith}
 use lib.ListN.{length}

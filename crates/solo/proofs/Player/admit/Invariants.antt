@@ -1,8 +1,6 @@
 -- `solo::Player::admit` meets its contract: each entry that is passed was reached, and the one it stops at was not. Assumes nothing.
-use Prim.Native.Nat.{◌-◌, ◌<◌}
+use Prim.Native.Nat.{◌-◌}
 use Rattle.solo.specs.Alone.{Plays}
-use Rattle.solo.proofs.Playing.{there, plays_on}
-use native.Mathlib.Omega.{arith}
 use lib.ListN.{length}
 use Rattle.solo.proofs.Player.admit.Given as goal
 

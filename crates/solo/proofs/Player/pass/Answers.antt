@@ -1,10 +1,9 @@
 -- `solo::Player::pass` meets its contract: the entry's demand goes to its task if the entry is the booth's. Assumes nothing.
 use mathlib.Core.Path.{refl, sym, ap, ◌∙◌}
-use Prim.Native.Nat.{◌+◌, ◌≤◌, ◌<◌}
+use Prim.Native.Nat.{◌+◌, ◌<◌}
 use native.Mathlib.Omega.{arith}
 use lib.ListN.{get_or, set}
 use Rattle.rules.specs.ArrivalLog.{entry_at}
-use borrow.Author.Rules.{rules}
 use Rattle.solo.proofs.Player.pass.Goals as goal
 use Rattle.solo.proofs.Player.pass.Goals.{After-entry_task-task}
 

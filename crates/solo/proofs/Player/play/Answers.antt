@@ -7,7 +7,6 @@ use Rattle.rules.specs.Values.{line_held}
 use Rattle.solo.specs.Alone.{Plays, own_tick}
 use Rattle.arrivals.specs.Places.{waiting_at}
 use Rattle.solo.proofs.Playing.{picked, task_picked, tick_small, silent, worked}
-use borrow.Author.Rules.{rules}
 use Rattle.solo.proofs.Player.play.Goals as goal
 use Rattle.solo.proofs.Player.play.Goals.{After-first_task-task, Then-task-ne-NOBODY}
 
@@ -53,7 +52,7 @@ returns-then-task-ne-NOBODY c =
 pub returns-else-task-ne-NOBODY : goal.returns-else-task-ne-NOBODY
 returns-else-task-ne-NOBODY c =
     let is = is-tick (goal.at.returns-else-task-ne-NOBODY c).After-first_task-task in
- record {
+    record {
       plays = silent _ _ _ c.requires.0 _ _ c.admit-self.ensures (sym is ∙ c.if-task-ne-NOBODY.false);
       byte = ap (set c.args.part.now c.args.u.0) is;
     }
