@@ -38,7 +38,7 @@ fn in_named_folder(folder: PathBuf) -> Result<PathBuf, String> {
 fn in_repository() -> Result<PathBuf, String> {
     let package = var_os("CARGO_MANIFEST_DIR").expect("cargo says where this package is");
     let root = PathBuf::from(package).join("../..");
-    let folder = root.join("target/staticlib");
+    let folder = root.join("crates/hallanupp/out");
     if !folder.join(LIBRARY).is_file() {
         build(&root)?;
     }
@@ -47,8 +47,8 @@ fn in_repository() -> Result<PathBuf, String> {
 
 fn build(root: &Path) -> Result<(), String> {
     let built = Command::new("rt")
-        .args(["staticlib", "hallanupp"])
-        .current_dir(root)
+        .arg("lib")
+        .current_dir(root.join("crates/hallanupp"))
         .output();
     match built {
         Ok(said) if said.status.success() => Ok(()),
@@ -56,12 +56,12 @@ fn build(root: &Path) -> Result<(), String> {
             let said = [said.stdout, said.stderr].concat();
             let said = String::from_utf8_lossy(&said);
             Err(format!(
-                "`rt staticlib hallanupp` did not build {LIBRARY}; it said: {}",
+                "`rt lib` in crates/hallanupp did not build {LIBRARY}; it said: {}",
                 said.trim()
             ))
         }
         Err(error) if error.kind() == ErrorKind::NotFound => Err(format!(
-            "{LIBRARY} is not in target/staticlib of the repository, and rt, which builds it, is not on the PATH"
+            "{LIBRARY} is not in crates/hallanupp/out of the repository, and rt, which builds it, is not on the PATH"
         )),
         Err(error) => Err(format!("rt, which builds {LIBRARY}, could not be started: {error}")),
     }
