@@ -24,20 +24,20 @@ due-all-requires c =
 present : (c : Else-table-booth) → c.args.booth < length (lines_held c.args.table)
 present c = omega (arith, lines_in _ c.requires, c.if-table-booth.false)
 
-all-due : (c : After-due-all)
+all_due : (c : After-due-all)
     → c.due-all.result.0 ≡ due (get_or (lines_held c.args.table) c.args.booth no_line).promise c.args.horizon
-all-due c = c.due-all.ensures ∙ ap (λ p. due p c.args.horizon) (sym (promise_in _ _ c.if-table-booth.false))
+all_due c = c.due-all.ensures ∙ ap (λ p. due p c.args.horizon) (sym (promise_in _ _ c.if-table-booth.false))
 
 pub returns-then-all-n : goal.returns-then-all-n
 returns-then-all-n c buffer fits =
-    c.fault_at-then-all-n.ensures ∙ sym (ap fault_of (call_many _ _ _ _ buffer (present (goal.at.returns-then-all-n c).Else-table-booth) (omega (arith, all-due (goal.at.returns-then-all-n c).After-due-all, c.if-all-n.true))))
+    c.fault_at-then-all-n.ensures ∙ sym (ap fault_of (call_many _ _ _ _ buffer (present (goal.at.returns-then-all-n c).Else-table-booth) (omega (arith, all_due (goal.at.returns-then-all-n c).After-due-all, c.if-all-n.true))))
 
 pub returns-then-room-n : goal.returns-then-room-n
 returns-then-room-n c buffer fits =
     c.fault_at-then-room-n.ensures
-    ∙ sym (ap fault_of (call_long _ _ _ _ buffer (present (goal.at.returns-then-room-n c).Else-table-booth) (omega (arith, all-due (goal.at.returns-then-room-n c).After-due-all, c.if-all-n.false)) (omega (arith, c.if-room-n.true))))
+    ∙ sym (ap fault_of (call_long _ _ _ _ buffer (present (goal.at.returns-then-room-n c).Else-table-booth) (omega (arith, all_due (goal.at.returns-then-room-n c).After-due-all, c.if-all-n.false)) (omega (arith, c.if-room-n.true))))
 
 pub returns : goal.returns
 unfolding fault_of
 returns c buffer fits =
-    sym (ap fault_of (call_fits _ _ _ _ buffer (present (goal.at.returns c).Else-table-booth) (omega (arith, all-due (goal.at.returns c).After-due-all, c.if-all-n.false)) (omega (arith, c.if-room-n.false))))
+    sym (ap fault_of (call_fits _ _ _ _ buffer (present (goal.at.returns c).Else-table-booth) (omega (arith, all_due (goal.at.returns c).After-due-all, c.if-all-n.false)) (omega (arith, c.if-room-n.false))))
