@@ -1,3 +1,4 @@
 pub mod Said
+pub mod HeldTick
 pub mod InC
 pub mod EveryAnswerPinned
