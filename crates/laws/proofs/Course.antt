@@ -97,7 +97,7 @@ module _ (ls : List Line) (es : List Entry) (as_read : AsRead ls es) where
         asleep = λ s h l. k.asleep s (omega arith) l;
       }
 
-  module _ (H : ℕ) (wall₀ own₀ : List ℕ) (wall_room : H ≤ length wall₀) (Own-room : length ls * H ≤ length own₀) where
+  module _ (H : ℕ) (wall₀ own₀ : List ℕ) (wall_room : H ≤ length wall₀) (own_room : length ls * H ≤ length own₀) where
     -- one byte more in the wall record
     wall_more : (t x : ℕ) (wall : List ℕ) → t < H → wall ≡ written 0 (settled_at t ls es).wall wall₀ → worker t 0 (booths t) ≡ x
         → set wall t x ≡ written 0 (settled_at (suc t) ls es).wall wall₀
@@ -162,7 +162,7 @@ module _ (ls : List Line) (es : List Entry) (as_read : AsRead ls es) where
         → part ≡ b.row ++ drop (length b.row) (take H (drop (i * H) own))
         → take (i * H) own ++ (part ++ drop H (drop (i * H) own)) ≡ write_rows H 0 (set bs i b) own₀
     lengthened_row t i bs b own part short few rows there fits longer is =
-        let room : length bs * H ≤ length own₀ = rw few Own-room in
+        let room : length bs * H ≤ length own₀ = rw few own_room in
         ap (λ p. take (i * H) own ++ (p ++ drop H (drop (i * H) own))) is
         ∙ ap (λ o. take (i * H) o ++ ((b.row ++ drop (length b.row) (take H (drop (i * H) o))) ++ drop H (drop (i * H) o))) rows
         ∙ row_moved H bs own₀ nobooth b i short fits (omega (arith, few)) room longer
