@@ -1,7 +1,8 @@
 // The desk: a booth table, then an arrival log, from standard input; the session as text on standard output.
 #![tactic(auto)]
 
-ghost use Rattle.std.specs.Prelude.{◌≤◌, length, IfOk};
+ghost use Rattle.std.specs.Prelude.{◌≤◌, ◌<◌, length, take, IfOk};
+ghost use Rattle.std.specs.Io.KnownBytes.{Consumes, IsAtEnd};
 
 use std::io;
 use std::io::{Print, Read};
@@ -9,13 +10,15 @@ use text::{MOST_INPUT, TEXT_ROOM};
 
 // Reads until the buffer is full or the input ends, and answers how many bytes lie at its start.
 fn read_full<R: Read>(reader: &mut R, buffer: &mut [u8]) -> io::Result<usize>
-    ensures { IfOk result (λ n. n ≤ length buffer.new) }
+    ensures bound { IfOk result (λ n. n ≤ length buffer.new) }
+    ensures bytes { IfOk result (λ n. Consumes (R.remaining reader.old) (R.remaining reader.new) (take n buffer.new)) }
+    ensures full { IfOk result (λ n. n < length buffer.new → IsAtEnd (R.remaining reader.new)) }
 {
     let mut done = 0;
     while done < buffer.len() {
         let n = reader.read(&mut buffer[done..])?;
         if n == 0 {
-            break;
+            return Ok(done);
         }
         done += n;
     }
