@@ -1,76 +1,61 @@
-// What every part of the product needs and no edition of its files changes: refusals, faults, and bytes as numbers.
+// What every part of the product needs and no edition of its files changes: refusals, and bytes as numbers.
 #![tactic(auto)]
 
-ghost use Rattle.std.specs.Prelude.{◌≡◌, ◌+◌, ◌≤◌, ◌<◌, length};
-ghost use Rattle.std.proofs.Math.Option.{some};
+ghost use Rattle.std.specs.Prelude.{◌≡◌, ◌+◌, ◌^◌, ◌≤◌, ◌<◌, length};
 ghost use Rattle.base.specs.Bytes.{number_at};
-ghost use Rattle.base.specs.Refusals.{refusal, fault_of};
+ghost use Rattle.base.specs.Refusals.{number_of};
 
-// The numbers that the box can answer.
-pub const BYTES_MISSING: u32 = 1;
+// Why a file or a call is refused, each with the number that the box answers.
+#[derive(Clone, Copy, PartialEq, Eq)]
+pub enum Reason {
+    BytesMissing = 1,
+    WrongVersion = 2,
+    BytesLeftOver = 3,
+    TooFewOrMany = 4,
+    WrongLengthByte = 5,
+    OutOfRange = 6,
+    NotAdmitted = 7,
+    WrongTick = 8,
+    NoSuchBoothOrTask = 9,
+    WrongDemand = 10,
+    DoesNotFit = 11,
+    TooLongAnInput = 12,
+}
 
-pub const WRONG_VERSION: u32 = 2;
-
-pub const BYTES_LEFT_OVER: u32 = 3;
-
-pub const TOO_FEW_OR_MANY: u32 = 4;
-
-pub const WRONG_LENGTH_BYTE: u32 = 5;
-
-pub const OUT_OF_RANGE: u32 = 6;
-
-pub const NOT_ADMITTED: u32 = 7;
-
-pub const WRONG_TICK: u32 = 8;
-
-pub const NO_SUCH_BOOTH_OR_TASK: u32 = 9;
-
-pub const WRONG_DEMAND: u32 = 10;
-
-pub const DOES_NOT_FIT: u32 = 11;
-
-pub const TOO_LONG_AN_INPUT: u32 = 12;
-
-// A number of document 01 and the place it is said of; number 0 is no refusal.
-#[derive(Clone, Copy)]
+// A reason and the place that it is said of.
+#[derive(Clone, Copy, PartialEq, Eq)]
 pub struct Refusal {
-    pub number: u32,
+    pub reason: Reason,
     pub place: usize,
 }
 
-// What a run of checks finds: the first that fails, or nothing.
-#[derive(Clone, Copy)]
-pub enum Fault {
-    Found(Refusal),
-    Nothing,
+impl Reason {
+    // The number of document 01.
+    pub fn number(self) -> u32
+        ensures { result ≡ number_of self }
+    {
+        self as u32
+    }
+
+    // The refusal of this place.
+    pub fn at(self, place: usize) -> Refusal
+        ensures { result ≡ record { reason = self; place = place } }
+    {
+        Refusal {
+            reason: self,
+            place,
+        }
+    }
 }
 
-// The fault with this number and place.
-pub fn fault_at(number: u32, place: usize) -> Fault
-    ensures { result ≡ fault_of (some (refusal number place)) }
+// The number in the `WIDTH` bytes from `at`, the first of which weighs most.
+pub fn number<const WIDTH: usize>(bytes: &[u8], at: usize) -> u32
+    requires { (WIDTH ≤ 4) × (at + WIDTH ≤ length bytes.now) }
+    ensures { (result ≡ number_at WIDTH bytes.now at) × (result < 256 ^ WIDTH) }
 {
-    Fault::Found(Refusal { number, place })
-}
-
-// A byte as a wider number.
-pub fn wide(x: u8) -> u32
-    ensures { (result ≡ x) × (result < 256) }
-{
-    x as u32
-}
-
-// The number in the two bytes from `at`.
-pub fn number16(bytes: &[u8], at: usize) -> u32
-    requires { at + 2 ≤ length bytes.now }
-    ensures { (result ≡ number_at 2 bytes.now at) × (result < 65536) }
-{
-    wide(bytes[at]) * 256 + wide(bytes[at + 1])
-}
-
-// The number in the four bytes from `at`.
-pub fn number32(bytes: &[u8], at: usize) -> u32
-    requires { at + 4 ≤ length bytes.now }
-    ensures { result ≡ number_at 4 bytes.now at }
-{
-    number16(bytes, at) * 65536 + number16(bytes, at + 2)
+    let mut n = 0;
+    for byte in &bytes[at..at + WIDTH] {
+        n = n * 256 + u32::from(*byte);
+    }
+    n
 }

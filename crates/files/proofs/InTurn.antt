@@ -5,8 +5,7 @@ use mathlib.Core.List.{List}
 use Prim.Native.Nat.{ℕ}
 use native.Mathlib.Omega.{arith}
 use Rattle.base.specs.Refusals.{taken, refusal}
-use Rattle.rules.specs.declared.Verdict.{Verdict}
-use Rattle.rules.specs.Verdicts.{accepted}
+use Rattle.rules.specs.Verdicts.{Verdict, accepted}
 use Rattle.rules.specs.Admission.{read_table}
 use Rattle.rules.specs.Files.{TwoFiles, both_taken, one_refused, read_files, files_verdict}
 use Rattle.rules.specs.Values.{held_table, lines_held}

@@ -6,9 +6,8 @@ use Prim.Native.Nat.{ℕ, ◌≤◌, ◌<◌}
 use borrow.Author.Tests.{lt-ltb, le-ltb, leb-true, leb-false, ltb-true, ltb-false}
 use lib.Dec.{leb, ltb, lit<}
 use lib.ListN.{length}
-use Rattle.rules.specs.declared.Refused.TheVariants.{TheCall}
+use Rattle.rules.specs.Verdicts.{TheCall, refused_as}
 use Rattle.base.specs.Refusals.{Taken, taken, refused, refusal}
-use Rattle.rules.specs.Verdicts.{refused_as}
 use Rattle.rules.specs.BoothTable.{Line}
 use Rattle.rules.specs.Admission.{read_table}
 use Rattle.rules.specs.Panel as page

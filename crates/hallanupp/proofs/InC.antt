@@ -5,11 +5,8 @@ use mathlib.Core.Option.{Option, none, some}
 use Prim.Native.Nat.{ℕ, ◌*◌}
 use native.Mathlib.Omega.{arith}
 use lib.ListN.{take, drop}
-use Rattle.base.specs.declared.Refusal.{Refusal}
-use Rattle.rules.specs.declared.Refused.{Refused}
-use Rattle.rules.specs.declared.Verdict.{Verdict}
-use Rattle.base.specs.Refusals.{first_fault}
-use Rattle.rules.specs.Verdicts.{accepted, refused_as}
+use Rattle.base.specs.Refusals.{Refusal, first_fault}
+use Rattle.rules.specs.Verdicts.{Refused, Verdict, accepted, refused_as}
 use Rattle.rules.specs.RowBack.{row_checks, row_back}
 use Rattle.rules.specs.Panel as page
 use Rattle.panel.specs.declared.PanelRow.{PanelRow}

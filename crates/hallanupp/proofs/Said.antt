@@ -2,8 +2,7 @@
 use mathlib.Core.Path.{◌≡◌}
 use mathlib.Core.List.{List}
 use Prim.Native.Nat.{ℕ}
-use Rattle.base.specs.declared.Refusal.{Refusal}
-use Rattle.base.specs.Refusals.{taken, refused, refusal}
+use Rattle.base.specs.Refusals.{Refusal, taken, refused, refusal}
 use Rattle.rules.specs.Verdicts.{accepted, refused_as}
 use Rattle.rules.specs.BoothTable.{Line}
 use Rattle.rules.specs.Admission.{read_table}

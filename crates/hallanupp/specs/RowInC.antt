@@ -1,8 +1,6 @@
 -- How a row handed back stands in a C struct: where it begins in the caller's own record, and how long it is.
 use Rattle.std.specs.Prelude.{ℕ, ◌*◌}
-use Rattle.rules.specs.declared.Refused.{Refused}
-use Rattle.rules.specs.declared.Refused.TheVariants.{Nothing, TheTable, TheLog, TheCall}
-use Rattle.rules.specs.declared.Verdict.{Verdict}
+use Rattle.rules.specs.Verdicts.{Refused, Nothing, TheTable, TheLog, TheCall, Verdict}
 use Rattle.hallanupp.specs.declared.parts.CRow.{CRow}
 use Rattle.hallanupp.specs.VerdictInC.{in_c}
 

@@ -1,11 +1,7 @@
 -- The verdict on a table, and how a verdict stands in a C struct.
 use Rattle.std.specs.Prelude.{List, ℕ}
-use Rattle.base.specs.declared.Refusal.{Refusal}
-use Rattle.rules.specs.declared.Refused.{Refused}
-use Rattle.rules.specs.declared.Refused.TheVariants.{Nothing, TheTable, TheLog, TheCall}
-use Rattle.rules.specs.declared.Verdict.{Verdict}
-use Rattle.base.specs.Refusals.{taken, refused}
-use Rattle.rules.specs.Verdicts.{accepted, refused_as}
+use Rattle.base.specs.Refusals.{Refusal, taken, refused}
+use Rattle.rules.specs.Verdicts.{Refused, Nothing, TheTable, TheLog, TheCall, Verdict, accepted, refused_as}
 use Rattle.rules.specs.Admission.{read_table}
 use Rattle.hallanupp.specs.declared.CVerdict.{CVerdict}
 

@@ -9,11 +9,9 @@ use native.Mathlib.Omega.{arith}
 use lib.ListN.{length, get_or, take, drop, length-map}
 use lib.Seq.{take-append_seam}
 use borrow.Author.Tests.{ltb-false, le-ltb}
-use Rattle.base.specs.declared.Refusal.{Refusal}
-use Rattle.rules.specs.declared.Refused.TheVariants.{TheCall}
+use Rattle.base.specs.Refusals.{Refusal, taken, refuse_if, first_fault}
+use Rattle.rules.specs.Verdicts.{TheCall, accepted, refused_as}
 use Rattle.base.specs.Bytes.{written}
-use Rattle.base.specs.Refusals.{taken, refuse_if, first_fault}
-use Rattle.rules.specs.Verdicts.{accepted, refused_as}
 use Rattle.rules.specs.BoothTable.{Line, no_line}
 use Rattle.rules.specs.ArrivalLog.{Entry, Log, read_log}
 use Rattle.rules.specs.Admission.{read_table}

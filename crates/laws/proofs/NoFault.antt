@@ -5,8 +5,7 @@ use mathlib.Core.List.{List, [], ◌∷◌}
 use mathlib.Core.Option.{none, some}
 use Prim.Native.Nat.{ℕ}
 use native.Mathlib.Omega.{arith}
-use Rattle.base.specs.declared.Refusal.{Refusal}
-use Rattle.base.specs.Refusals.{Taken, taken, refused, Check, first_fault}
+use Rattle.base.specs.Refusals.{Refusal, Taken, taken, refused, Check, first_fault}
 
 pub taken_or_refused : {A : Type 0} (a : A) (r : Refusal) → refused r ≡ taken a → ⊥
 taken_or_refused a r e = let z : ◌≡◌ {A = ℕ} 0 1 = cc in omega arith

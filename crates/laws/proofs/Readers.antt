@@ -9,8 +9,7 @@ use native.Mathlib.Omega.{arith}
 use lib.Dec.{leb, ltb, eqb}
 use lib.ListN.{length, get_or}
 use borrow.Author.Tests.{ltb-false, leb-true, leb-false, eqb-false}
-use Rattle.base.specs.declared.Refusal.{Refusal}
-use Rattle.base.specs.Refusals.{Taken, taken, refused, refuse_if, first_fault}
+use Rattle.base.specs.Refusals.{Refusal, Taken, taken, refused, refuse_if, first_fault}
 use Rattle.rules.specs.FileHead.{head_checks}
 use Rattle.rules.specs.BoothTable.{Line, Placed, lines_of, booths_allowed, table_n, header_checks, record_end, placed_at, record_checks, with_placed, read_records, read_lines}
 use Rattle.rules.specs.ArrivalLog.{Entry, Log, longest_session, entries_allowed, entry_bytes, log_n, log_h, log_head_checks, horizon_checks, entry_at, longest_jobs, entry_checks, with_entry, read_entries, with_horizon, read_log}

@@ -13,11 +13,8 @@ use lib.Ieee.{Float}
 use lib.ListN.{length, take, drop, get_or, length-take, take-append-drop}
 use lib.Seq.{take-suc, take-add}
 use Rattle.rules.specs.declared.Promise.{Promise}
-use Rattle.base.specs.declared.Refusal.{Refusal}
-use Rattle.rules.specs.declared.Refused.{Refused}
-use Rattle.rules.specs.declared.Refused.TheVariants.{Nothing, TheTable, TheCall}
-use Rattle.base.specs.Refusals.{Taken, taken, refused, refuse_if, refusal, first_fault}
-use Rattle.rules.specs.Verdicts.{accepted, refused_as}
+use Rattle.base.specs.Refusals.{Refusal, Taken, taken, refused, refuse_if, refusal, first_fault}
+use Rattle.rules.specs.Verdicts.{Refused, Nothing, TheTable, TheCall, accepted, refused_as}
 use Rattle.rules.specs.BoothTable.{Line, no_line}
 use Rattle.rules.specs.Admission.{read_table}
 use Rattle.rules.specs.Due.{due}

@@ -2,7 +2,7 @@
 #![tactic(auto)]
 
 ghost use Rattle.std.specs.Prelude.{◌≡◌, ◌+◌, ◌≤◌, ◌<◌, length, take};
-ghost use Rattle.rules.specs.declared.Refused.TheVariants.{TheCall};
+ghost use Rattle.rules.specs.Verdicts.{TheCall};
 ghost use Rattle.base.specs.Refusals.{refusal};
 ghost use Rattle.rules.specs.Verdicts.{refused_as};
 ghost use Rattle.rules.specs.InRange.{Sound};

@@ -7,10 +7,8 @@ use native.Mathlib.Nat.{mul-le-mul_left, mul-le-mul_right}
 use native.Mathlib.Omega.{arith}
 use borrow.Author.Tests.{leb-false, ltb-false}
 use lib.ListN.{length, take, drop}
-use Rattle.base.specs.declared.Refusal.{Refusal}
-use Rattle.rules.specs.declared.Refused.TheVariants.{TheCall}
-use Rattle.base.specs.Refusals.{first_fault}
-use Rattle.rules.specs.Verdicts.{accepted, refused_as}
+use Rattle.base.specs.Refusals.{Refusal, first_fault}
+use Rattle.rules.specs.Verdicts.{TheCall, accepted, refused_as}
 use Rattle.rules.specs.RowBack.{row_checks, row_back}
 use Rattle.base.proofs.Checks.{passed}
 

@@ -9,6 +9,9 @@ use native.Mathlib.Omega.{arith}
 use lib.Dec.{ltb}
 use lib.ListN.{length, get_or, get_or-eq_default}
 use borrow.Author.Tests.{lt-ltb}
+use Rattle.std.proofs.Common.{unwrap_or, nat_lt, position}
+use Rattle.std.specs.List.{position_from}
+use Rattle.std.proofs.lemmas.Iterator.Adapters.{position_from-zero}
 use Rattle.rules.specs.Moves.{nobody, no_demand, first_task}
 use Rattle.rules.specs.SoloPart.{first_that}
 use Rattle.rules.proofs.FirstThat.{hit, miss}
@@ -88,3 +91,13 @@ that_from test (suc m) i (suc d ∷ ds) t z = sym (hit test m i (ap test (sym (a
 
 pub first_that_lem : (m : ℕ) (ds : List ℕ) → ((k : ℕ) → m ≤ k → get_or ds k 0 ≡ 0) → first_task 0 ds ≡ first_that (λ k. ltb 0 (get_or ds k 0)) m 0
 first_that_lem m ds z = that_from (λ k. ltb 0 (get_or ds k 0)) m 0 ds (λ k. ap (λ j. ltb 0 (get_or ds j 0)) (zero-add k)) z
+
+-- the first place with demand, as the library finds it
+place_from : (i : ℕ) (ds : List ℕ) → unwrap_or (position_from (λ d. nat_lt 0 d) i ds) nobody ≡ first_task i ds
+unfolding first_task
+place_from i [] = refl
+place_from i (zero ∷ ds) = place_from (i + 1) ds ∙ ap (λ k. first_task k ds) (omega arith)
+place_from i (suc d ∷ ds) = rw (lt-ltb 0 (suc d) (omega arith))
+
+pub place_of_first : (ds : List ℕ) → unwrap_or (position (λ d. nat_lt 0 d) ds) nobody ≡ first_task 0 ds
+place_of_first ds = ap (λ o. unwrap_or o nobody) (position_from-zero (λ d. nat_lt 0 d) ds) ∙ place_from 0 ds

@@ -4,11 +4,8 @@ use mathlib.Core.Logic.{◌≢◌}
 use mathlib.Core.List.{List}
 use Prim.Native.Nat.{ℕ}
 use native.Mathlib.Omega.{arith}
-use Rattle.base.specs.declared.Refusal.{Refusal}
-use Rattle.base.specs.Refusals.{Taken, taken, refused}
-use Rattle.rules.specs.declared.Refused.TheVariants.{Nothing, TheTable, TheLog}
-use Rattle.rules.specs.declared.Verdict.{Verdict}
-use Rattle.rules.specs.Verdicts.{refused_as}
+use Rattle.base.specs.Refusals.{Refusal, Taken, taken, refused}
+use Rattle.rules.specs.Verdicts.{Nothing, TheTable, TheLog, Verdict, refused_as}
 use Rattle.rules.specs.BoothTable.{Line}
 use Rattle.rules.specs.ArrivalLog.{Log, read_log}
 use Rattle.rules.specs.Admission.{read_table}

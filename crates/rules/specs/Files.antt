@@ -1,9 +1,7 @@
 -- The two files of a session in their order: the table, then the log over its lines. Every call that is handed both reads them so.
 use Rattle.std.specs.Prelude.{List, ℕ}
 use Rattle.base.specs.Refusals.{taken, refused}
-use Rattle.rules.specs.declared.Refused.TheVariants.{TheTable, TheLog}
-use Rattle.rules.specs.declared.Verdict.{Verdict}
-use Rattle.rules.specs.Verdicts.{accepted, refused_as}
+use Rattle.rules.specs.Verdicts.{TheTable, TheLog, Verdict, accepted, refused_as}
 use Rattle.rules.specs.BoothTable.{Line}
 use Rattle.rules.specs.ArrivalLog.{Log, read_log}
 use Rattle.rules.specs.Admission.{read_table}

@@ -5,11 +5,8 @@ use mathlib.Core.Option.{Option, none, some}
 use Prim.Native.Nat.{ℕ, ◌*◌, ◌≤◌, ◌<◌}
 use borrow.Author.Tests.{lt-ltb, le-ltb}
 use lib.ListN.{length}
-use Rattle.base.specs.declared.Refusal.{Refusal}
-use Rattle.rules.specs.declared.Refused.TheVariants.{TheCall}
-use Rattle.base.specs.Refusals.{refusal, refuse_if, first_fault}
-use Rattle.rules.specs.declared.Verdict.{Verdict}
-use Rattle.rules.specs.Verdicts.{refused_as}
+use Rattle.base.specs.Refusals.{Refusal, refusal, refuse_if, first_fault}
+use Rattle.rules.specs.Verdicts.{TheCall, Verdict, refused_as}
 use Rattle.rules.specs.BoothTable.{Line}
 use Rattle.rules.specs.ArrivalLog.{Log}
 use Rattle.rules.specs.Files.{both_taken, one_refused, read_files}

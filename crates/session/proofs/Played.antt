@@ -6,35 +6,29 @@ use native.Mathlib.Nat.{zero-add}
 use native.Mathlib.Omega.{arith}
 use lib.ListN.{length, get_or, take, length-map}
 use Rattle.rules.specs.declared.Table.{Table}
-use Rattle.rules.specs.declared.Refused.TheVariants.{Nothing}
-use Rattle.base.specs.Refusals.{refusal}
-use Rattle.rules.specs.Verdicts.{accepted}
+use Rattle.rules.specs.Verdicts.{Nothing, accepted, Verdict}
+use Rattle.base.specs.Refusals.{refusal, taken}
 use Rattle.rules.specs.BoothTable.{Line, no_line}
-use Rattle.rules.specs.ArrivalLog.{Log}
+use Rattle.rules.specs.ArrivalLog.{Log, read_log}
 use Rattle.rules.specs.Moves.{Booth, nobody}
-use Rattle.rules.specs.Session.{own_entries, fresh_booth, open_booths, settled_at, count, worked_from, write_rows, played}
+use Rattle.rules.specs.Session.{own_entries, fresh_booth, open_booths, settled_at, count, worked_from, write_rows, played, Outcome, nothing_done, session}
 use Rattle.rules.specs.Values.{padded, line_held, lines_held, no_held_line}
 use Rattle.rules.proofs.Fitting.{lines_in, line_in}
 use Rattle.laws.proofs.Run.{open_at, length_booths}
 use Rattle.laws.specs.Courses.{nobooth}
 use Rattle.laws.proofs.Course.{begins, closes, closed}
 use Rattle.booth.specs.declared.Booth.{Booth as HeldBooth}
-use Rattle.rules.specs.declared.Verdict.{Verdict}
-use Rattle.base.specs.Refusals.{taken}
-use Rattle.rules.specs.ArrivalLog.{read_log}
 use Rattle.rules.specs.Admission.{read_table}
-use Rattle.rules.specs.Session.{Outcome, nothing_done, session}
 use Rattle.rules.proofs.Held.{zeros}
 use Rattle.files.specs.declared.Files.{Files}
 use Rattle.files.specs.Told.{FilesTaken}
 use Rattle.rules.proofs.TwoFiles.{read_in_turn}
 use Rattle.laws.specs.Statements.{Accepted as Session}
 use Rattle.laws.proofs.Answered.{answers, as_read as read_as}
-use Rattle.session.specs.SessionAnswered.{nothing_answered}
+use Rattle.session.specs.SessionAnswered.{nothing_answered, answered}
 use Rattle.session.proofs.ByCases.{plays}
 use Rattle.session.specs.declared.SessionAnswer.{SessionAnswer}
 use Rattle.engine.specs.declared.Stage.{Stage}
-use Rattle.session.specs.SessionAnswered.{answered}
 use Rattle.arrivals.specs.Places.{entries_of, log_of}
 use Rattle.engine.specs.Running.{nowhere, Same, Alike, Running, OpenedTo, Ready, Through, Ending, Ended, Playable}
 use Rattle.engine.proofs.Engine.{shown_same, clocks_are, worked_are}

@@ -1,6 +1,6 @@
 -- How the code answers what the rules say of a session: a number for each booth, in arrays of eight, and 0 where the table has no booth.
 use Rattle.std.specs.Prelude.{[], length}
-use Rattle.rules.specs.declared.Verdict.{Verdict}
+use Rattle.rules.specs.Verdicts.{Verdict}
 use Rattle.rules.specs.BoothTable.{booths_allowed}
 use Rattle.rules.specs.Session.{Outcome}
 use Rattle.rules.specs.Values.{padded}

@@ -5,13 +5,10 @@ use mathlib.Core.Option.{none, some}
 use Prim.Native.Nat.{ℕ, ◌≤◌, ◌<◌}
 use borrow.Author.Tests.{le-leb, lt-leb, lt-ltb, le-ltb, leb-false, ltb-false}
 use lib.ListN.{length, get_or}
-use Rattle.base.specs.declared.Refusal.{Refusal}
-use Rattle.rules.specs.declared.Refused.TheVariants.{TheCall}
+use Rattle.base.specs.Refusals.{Refusal, refusal, refuse_if, first_fault}
+use Rattle.rules.specs.Verdicts.{TheCall, Verdict, accepted, refused_as}
 use Rattle.rules.specs.declared.Table.{Table as HeldTable}
-use Rattle.rules.specs.declared.Verdict.{Verdict}
 use Rattle.base.specs.Bytes.{written}
-use Rattle.base.specs.Refusals.{refusal, refuse_if, first_fault}
-use Rattle.rules.specs.Verdicts.{accepted, refused_as}
 use Rattle.rules.specs.BoothTable.{Line, no_line}
 use Rattle.rules.specs.ArrivalLog.{Log}
 use Rattle.rules.specs.Files.{both_taken, one_refused, read_files}

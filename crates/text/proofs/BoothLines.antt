@@ -7,8 +7,7 @@ use native.Mathlib.Numerals.{add-one}
 use native.Mathlib.Omega.{arith}
 use lib.ListN.{length, get_or, drop, length-append, length-take}
 use borrow.Author.Tests.{ltb-false}
-use Rattle.base.specs.declared.Refusal.{Refusal}
-use Rattle.base.specs.Refusals.{refuse_if, first_fault}
+use Rattle.base.specs.Refusals.{Refusal, refuse_if, first_fault}
 use Rattle.rules.specs.RowBack.{row_checks, row_back}
 use Rattle.rules.specs.Desk as page
 use Rattle.laws.proofs.NoFault.{no_fault}

@@ -5,8 +5,7 @@ use Prim.Native.Nat.{ℕ, zero, suc, ◌+◌, ◌*◌, ◌-◌, ◌≤◌, ◌<�
 use native.Mathlib.Omega.{arith}
 use lib.ListN.{length, get_or, take, drop, replicate, length-append, length-replicate}
 use borrow.Author.Tests.{lt-ltb, le-ltb}
-use Rattle.rules.specs.declared.Refused.{Refused}
-use Rattle.rules.specs.declared.Refused.TheVariants.{Nothing, TheTable, TheLog, TheCall}
+use Rattle.rules.specs.Verdicts.{Refused, Nothing, TheTable, TheLog, TheCall}
 use Rattle.base.specs.Bytes.{written}
 use Rattle.base.specs.Refusals.{refusal}
 use Rattle.rules.specs.BoothTable.{booths_allowed}

@@ -7,11 +7,8 @@ use native.Mathlib.Omega.{arith}
 use lib.Dec.{ltb}
 use lib.ListN.{length, length-map}
 use borrow.Author.Tests.{ltb-true, ltb-false}
-use Rattle.rules.specs.declared.Refused.{Refused}
-use Rattle.rules.specs.declared.Refused.TheVariants.{Nothing, TheCall}
-use Rattle.rules.specs.declared.Verdict.{Verdict}
-use Rattle.base.specs.declared.Refusal.{Refusal}
-use Rattle.rules.specs.Verdicts.{refused_as}
+use Rattle.rules.specs.Verdicts.{Refused, Nothing, TheCall, Verdict, refused_as}
+use Rattle.base.specs.Refusals.{Refusal}
 use Rattle.rules.specs.BoothTable.{Line}
 use Rattle.rules.specs.ArrivalLog.{Log}
 use Rattle.rules.specs.Files.{TwoFiles, both_taken, one_refused, read_files}

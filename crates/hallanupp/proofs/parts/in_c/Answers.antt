@@ -1,6 +1,6 @@
 -- `in_c` meets its contract: each arm is a case of the definition. Assumes nothing.
 use mathlib.Core.Path.{◌∙◌}
-use Rattle.rules.specs.declared.Refused.TheVariants.{Nothing, TheTable, TheLog, TheCall}
+use Rattle.rules.specs.Verdicts.{Nothing, TheTable, TheLog, TheCall}
 use Rattle.hallanupp.specs.VerdictInC.{what_in_c}
 use Rattle.hallanupp.proofs.InC.{told}
 use Rattle.hallanupp.proofs.parts.in_c.Goals as goal
