@@ -1,2 +1,1 @@
 pub mod Test
-pub mod LaidOut

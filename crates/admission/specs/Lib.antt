@@ -1,2 +1,1 @@
 pub mod NotAdmitted
-pub mod Promised

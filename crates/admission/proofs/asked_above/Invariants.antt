@@ -1,13 +1,8 @@
--- `admission::asked_above` meets its contract: after j turns, what the first j booths ask. Assumes nothing.
-use mathlib.Core.Path.{◌≡◌}
-use Prim.Native.Nat.{◌*◌, ◌-◌, ◌≤◌}
-use lib.ListN.{take}
+-- `admission::asked_above` meets its contract: so far, what the booths passed over ask. Assumes nothing.
+use Rattle.std.proofs.Common.{◌≡◌, ◌*◌, ◌≤◌, take, map}
 use Rattle.rules.specs.Admission.{asked_above}
-use Rattle.admission.specs.Promised.{promised}
+use Rattle.rules.specs.Values.{line_held}
 use Rattle.admission.proofs.asked_above.Given as goal
 
-abbrev pub invariant-loop-j : goal.invariant-loop-j
-invariant-loop-j l = (l.j ≤ l.i) × (l.asked ≡ asked_above (take l.j (promised l.periods l.allowances)) l.r) × (l.asked ≤ l.j * 200000000)
-
-abbrev pub decreases-loop-j : goal.decreases-loop-j
-decreases-loop-j l = l.i - l.j
+abbrev pub invariant-loop-line : goal.invariant-loop-line
+invariant-loop-line l = record { held : l.asked ≡ asked_above (map line_held (take l.line-index l.above)) l.r; small : l.asked ≤ l.line-index * 200000000 }

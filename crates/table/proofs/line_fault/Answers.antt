@@ -3,6 +3,7 @@ use borrow.Author.Tests.{eq-eqb, ne_eqb, lt-ltb, le-ltb}
 use Rattle.base.specs.Refusals.{refuse_if, first_fault, fault_of}
 use Rattle.rules.specs.BoothTable.{line_checks}
 use Rattle.rules.specs.Values.{line_held}
+use Rattle.table.proofs.Lines.{some_zero_any}
 use Rattle.table.proofs.line_fault.Goals as goal
 
 pub returns-then-promise-eq0 : goal.returns-then-promise-eq0
@@ -21,10 +22,10 @@ pub returns-then-promise : goal.returns-then-promise
 unfolding line_checks line_held first_fault refuse_if
 returns-then-promise c = simp (c.fault_at-then-promise.ensures, ne_eqb _ _ c.if-promise-eq0.false, le-ltb _ _ c.if-promise-gt-LONGEST_PERIOD.false, ne_eqb _ _ c.if-promise-eq0-2.false, lt-ltb _ _ c.if-promise.true)
 
-pub returns-then-some_zero : goal.returns-then-some_zero
+pub returns-then-contains : goal.returns-then-contains
 unfolding line_checks line_held first_fault refuse_if
-returns-then-some_zero c = simp (c.fault_at-then-some_zero.ensures, ne_eqb _ _ c.if-promise-eq0.false, le-ltb _ _ c.if-promise-gt-LONGEST_PERIOD.false, ne_eqb _ _ c.if-promise-eq0-2.false, le-ltb _ _ c.if-promise.false, ← c.some_zero.ensures, c.if-some_zero.true)
+returns-then-contains c = simp (c.fault_at-then-contains.ensures, ne_eqb _ _ c.if-promise-eq0.false, le-ltb _ _ c.if-promise-gt-LONGEST_PERIOD.false, ne_eqb _ _ c.if-promise-eq0-2.false, le-ltb _ _ c.if-promise.false, some_zero_any, ← c.contains.ensures.value, c.if-contains.true)
 
 pub returns : goal.returns
 unfolding line_checks line_held first_fault refuse_if fault_of
-returns c = simp (ne_eqb _ _ c.if-promise-eq0.false, le-ltb _ _ c.if-promise-gt-LONGEST_PERIOD.false, ne_eqb _ _ c.if-promise-eq0-2.false, le-ltb _ _ c.if-promise.false, ← c.some_zero.ensures, c.if-some_zero.false)
+returns c = simp (ne_eqb _ _ c.if-promise-eq0.false, le-ltb _ _ c.if-promise-gt-LONGEST_PERIOD.false, ne_eqb _ _ c.if-promise-eq0-2.false, le-ltb _ _ c.if-promise.false, some_zero_any, ← c.contains.ensures.value, c.if-contains.false)

@@ -1,7 +1,6 @@
--- `table::longest_at` meets its contract: after k turns the array holds the first k jobs. Assumes nothing.
+-- `table::longest_at` meets its contract: the array holds the first k jobs. Assumes nothing.
 use mathlib.Core.Path.{◌≡◌, refl, ap, ◌∙◌}
 use native.Mathlib.Omega.{arith}
-use borrow.Author.Rules.{rules}
 use Rattle.rules.specs.BoothTable.{jobs_at}
 use Rattle.rules.specs.Values.{padded}
 use Rattle.table.proofs.Lines.{job_stored}
@@ -9,14 +8,14 @@ use Rattle.table.proofs.longest_at.Goals as goal
 
 pub loop-k-init : goal.loop-k-init
 unfolding padded jobs_at
-loop-k-init c = (omega arith, refl)
+loop-k-init c = refl
 
 pub loop-k-preserved : goal.loop-k-preserved
 loop-k-preserved c =
     let now = c.loop-k in
-    (search rules, job_stored now.longest now.k c.args.bytes.now c.args.at c.number16.result now.invariant.1 (omega arith) c.number16.ensures.0)
+    job_stored now.longest now.k c.args.bytes.now c.args.at c.number16.result now.invariant (omega arith) c.number16.ensures.0
 
 pub returns : goal.returns
 returns c =
     let k : c.loop-k.k ≡ c.args.tasks = omega arith in
-    c.loop-k.invariant.1 ∙ ap (λ n. padded 8 0 (jobs_at n c.args.bytes.now c.args.at)) k
+    c.loop-k.invariant ∙ ap (λ n. padded 8 0 (jobs_at n c.args.bytes.now c.args.at)) k
