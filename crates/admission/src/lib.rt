@@ -2,13 +2,13 @@
 #![tactic(auto)]
 
 ghost use Rattle.std.specs.Prelude.{◌≡◌, [], ◌≤◌, ◌<◌, length, map, All};
-ghost use Rattle.base.specs.Refusals.{fault_of};
+ghost use Rattle.base.specs.Refusals.{fault_in};
 ghost use Rattle.rules.specs.Admission as admission;
 ghost use Rattle.rules.specs.Values.{line_held, lines_held};
 ghost use Rattle.rules.specs.Fit.{FitLine, FitTable};
 ghost use Rattle.admission.specs.NotAdmitted.{not_admitted_at};
 
-use base::Fault;
+use base::{Reason, Refusal};
 use rules::{BOOTHS_ALLOWED, Line, Promise, Table};
 
 #[tactic(auto, using(crate::proofs::Test::one_period, crate::proofs::Test::left_over))]
@@ -60,15 +60,15 @@ fn passes(above: &[Line], line: &Line) -> bool
 }
 
 // Admission, booth 0 first; the first that fails is refused where its record starts.
-pub fn admission_fault(table: Table, starts: [usize; BOOTHS_ALLOWED]) -> Fault
+pub fn check_admission(table: Table, starts: [usize; BOOTHS_ALLOWED]) -> Result<(), Refusal>
     requires { FitTable table }
-    ensures { result ≡ fault_of (not_admitted_at starts (admission.first_failing 0 [] (lines_held table))) }
+    ensures { fault_in result ≡ not_admitted_at starts (admission.first_failing 0 [] (lines_held table)) }
 {
     let lines = &table.lines[..table.booths];
     for (i, line) in lines.iter().enumerate() {
         if !passes(&lines[..i], line) {
-            return base::fault_at(base::NOT_ADMITTED, starts[i]);
+            return Err(Reason::NotAdmitted.at(starts[i]));
         }
     }
-    Fault::Nothing
+    Ok(())
 }
