@@ -6,4 +6,4 @@ use Rattle.table.proofs.line_at.Goals as goal
 
 pub returns : goal.returns
 unfolding line_at record_l held_line
-returns c = simp (c.number16-period.ensures.0, c.number16-allowance.ensures.0, c.longest_at-longest.ensures, c.requires.1, length_jobs)
+returns c = simp (c.number-period.ensures.0, c.number-allowance.ensures.0, c.longest_at-longest.ensures, c.requires.1, length_jobs)

@@ -13,7 +13,7 @@ loop-k-init c = refl
 pub loop-k-preserved : goal.loop-k-preserved
 loop-k-preserved c =
     let now = c.loop-k in
-    job_stored now.longest now.k c.args.bytes.now c.args.at c.number16.result now.invariant (omega arith) c.number16.ensures.0
+    job_stored now.longest now.k c.args.bytes.now c.args.at c.number.result now.invariant (omega arith) c.number.ensures.0
 
 pub returns : goal.returns
 returns c =

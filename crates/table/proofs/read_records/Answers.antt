@@ -1,55 +1,45 @@
 -- `table::read_records` meets its contract: the reader stands where the rules still have to read. Assumes nothing.
-use mathlib.Core.Path.{sym, ap, ◌∙◌, subst}
-use Prim.Native.Nat.{◌+◌}
-use native.Mathlib.Omega.{arith}
-use lib.ListN.{set}
-use Rattle.base.specs.Refusals.{fault_of, refusal}
+use Rattle.std.proofs.Common.{◌≡◌, sym, subst, ◌+◌, arith}
+use Rattle.std.proofs.lemmas.Result.{err_from_is_err_and}
+use lib.ListN.{get_or, set}
+use Rattle.base.specs.Refusals.{refusal, said, number_of, fault_in, as_read, taken_as}
 use Rattle.rules.specs.BoothTable.{record_l, record_end}
-use Rattle.base.proofs.Checks.{nothing_found, fault_found}
-use Rattle.table.specs.TableAnswered.{no_records}
 use Rattle.table.proofs.Reading.{Standing, records_full, records_fault, stands_on, stands_first, stands_refused, stands_done}
 use Rattle.table.proofs.read_records.Goals as goal
 
 pub loop-at-init : goal.loop-at-init
 loop-at-init c = stands_first c.args.bytes.now c.no_line-lines.result c.no_line-lines.ensures
 
-pub returns-then-booths-eq-BOOTHS_ALLOWED : goal.returns-then-booths-eq-BOOTHS_ALLOWED
-returns-then-booths-eq-BOOTHS_ALLOWED c =
+pub returns-then-booths-eq-BOOTHS_ALLOWED-clause-read : goal.returns-then-booths-eq-BOOTHS_ALLOWED-clause-read
+unfolding as_read taken_as said number_of
+returns-then-booths-eq-BOOTHS_ALLOWED-clause-read c =
     let bs = c.args.bytes.now in
     let now = c.loop-at in
-    let both = stands_refused bs now.lines now.starts now.booths now.at now.invariant c.no_records.result (refusal 4 now.at)
-    (c.no_records.ensures ∙ ap no_records c.fault_at.ensures)
-    (records_full bs now.booths now.at c.if-booths-eq-BOOTHS_ALLOWED.true c.loop-at-test.true) in
-    record { read = both.0; fit = both.1 }
+    let whole = stands_refused bs now.lines now.starts now.booths now.at now.invariant (refusal 4 now.at) (records_full bs now.booths now.at c.if-booths-eq-BOOTHS_ALLOWED.true c.loop-at-test.true) in
+    simp (whole, c.at.ensures)
 
-pub returns-in-Found : goal.returns-in-Found
-unfolding fault_of
-returns-in-Found c =
+pub returns-in_err-lines-clause-read : goal.returns-in_err-lines-clause-read
+unfolding as_read taken_as fault_in
+returns-in_err-lines-clause-read c =
     let bs = c.args.bytes.now in
     let now = c.loop-at in
-    let why = fault_found _ _ (sym c.record_at-record.ensures.fault ∙ c.in-Found.is) in
-    let both = stands_refused bs now.lines now.starts now.booths now.at now.invariant c.no_records-in-Found.result c.in-Found.field-0
-    (c.no_records-in-Found.ensures ∙ ap no_records c.in-Found.is) (records_fault bs now.booths now.at _ (omega arith) (omega arith) why) in
-    record { read = both.0; fit = both.1 }
-
-pub overflow_add-at-in-loop-at : goal.overflow_add-at-in-loop-at
-overflow_add-at-in-loop-at c = omega (arith, c.wide-l.ensures)
-
-pub loop-at-smaller : goal.loop-at-smaller
-loop-at-smaller c = omega (arith, c.wide-l.ensures)
+    let p = err_from_is_err_and c.from_residual.result c.from_residual.ensures.1 in
+    let whole = stands_refused bs now.lines now.starts now.booths now.at now.invariant _ (records_fault bs now.booths now.at _ (omega arith) (omega arith) (sym c.in_err-lines.ensures.fault)) in
+    rw (p.1, p.2, whole)
 
 pub loop-at-preserved : goal.loop-at-preserved
-unfolding record_end record_l
+unfolding record_end record_l fault_in
 loop-at-preserved c =
     let bs = c.args.bytes.now in
     let now = c.loop-at in
-    let found = c.record_at-record in
-    let none = nothing_found _ (sym found.ensures.fault ∙ c.in_default.is) in
-    subst (Standing bs (set now.lines now.booths found.result.line) (set now.starts now.booths now.at) (now.booths + 1)) (ap (λ l. now.at + 1 + l) (sym c.wide-l.ensures.0))
-    (stands_on bs now.lines now.starts now.booths now.at found.result.line now.invariant (omega arith) (omega arith) none (found.ensures.line none))
+    let l = c.in_ok-lines.field-0 in
+    let end : now.at + 1 + get_or bs now.at 0 ≡ now.at + (1 + c.from.result) = omega (arith, c.from.ensures) in
+    subst (Standing bs (set now.lines now.booths l) (set now.starts now.booths now.at) (now.booths + 1)) end
+    (stands_on bs now.lines now.starts now.booths now.at l now.invariant (omega arith) (omega arith) (sym c.in_ok-lines.ensures.fault) c.in_ok-lines.ensures.line)
 
-pub returns : goal.returns
-returns c =
+pub returns-clause-read : goal.returns-clause-read
+unfolding as_read taken_as
+returns-clause-read c =
     let now = c.loop-at in
-    let both = stands_done c.args.bytes.now now.lines now.starts now.booths now.at now.invariant (omega arith) in
-    record { read = both.0; fit = both.1 }
+    let done = stands_done c.args.bytes.now now.lines now.starts now.booths now.at now.invariant (omega arith) in
+    rw (done.0, done.1)
