@@ -1,5 +1,5 @@
 -- `table::read_records` meets its contract: the reader stands where the rules still have to read. Assumes nothing.
-use mathlib.Core.Path.{sym, ap, ◌∙◌, subst}
+use mathlib.Core.Path.{◌≡◌, sym, ap, ◌∙◌, subst}
 use Prim.Native.Nat.{◌+◌}
 use native.Mathlib.Omega.{arith}
 use lib.ListN.{set}
@@ -45,7 +45,8 @@ loop-at-preserved c =
     let now = c.loop-at in
     let found = c.record_at-record in
     let none = nothing_found _ (sym found.ensures.fault ∙ c.in_default.is) in
-    subst (Standing bs (set now.lines now.booths found.result.line) (set now.starts now.booths now.at) (now.booths + 1)) (ap (λ l. now.at + 1 + l) (sym c.wide-l.ensures.0))
+    let next : record_end bs now.at ≡ now.at + (1 + c.wide-l.result) = omega (arith, c.wide-l.ensures.0) in
+    subst (Standing bs (set now.lines now.booths found.result.line) (set now.starts now.booths now.at) (now.booths + 1)) next
     (stands_on bs now.lines now.starts now.booths now.at found.result.line now.invariant (omega arith) (omega arith) none (found.ensures.line none))
 
 pub returns : goal.returns

@@ -1,6 +1,6 @@
 -- `table::record_at` meets its contract: each return is the first check that fails. Assumes nothing.
 use mathlib.Core.Path.{◌≡◌, sym, ap, ◌∙◌}
-use mathlib.Core.Bool.{true}
+use mathlib.Core.Bool.{true, false}
 use Prim.Native.Nat.{◌+◌, ◌-◌, ◌/◌}
 use native.Mathlib.Omega.{arith}
 use lib.ListN.{length, get_or}
@@ -9,33 +9,17 @@ use Rattle.base.specs.Refusals.{refuse_if, first_fault, refusal}
 use Rattle.rules.specs.BoothTable.{record_checks, record_l, record_end, line_at, length_allowed, jobs_at}
 use Rattle.rules.specs.Values.{held_line}
 use Rattle.rules.proofs.Held.{line_held_lem}
-use Rattle.rules.proofs.Records.{length_jobs}
-use Rattle.table.proofs.Lines.{too_short, too_long, odd, allowed}
+use Rattle.rules.proofs.Records.{length_jobs, allowed_range}
 use Rattle.table.proofs.Reading.{record_refused}
 use Rattle.table.proofs.record_at.Goals as goal
 
-pub returns-then-l-lt-LEAST_LENGTH : goal.returns-then-l-lt-LEAST_LENGTH
+pub returns-then-not-length_allowed : goal.returns-then-not-length_allowed
 unfolding record_checks record_l first_fault refuse_if
-returns-then-l-lt-LEAST_LENGTH c =
+returns-then-not-length_allowed c =
     let bs = c.args.bytes.now in
     let at = c.args.at in
-    let both = record_refused bs at c.no_record.result (refusal 5 at) (c.no_record.ensures ∙ c.fault_at.ensures) (simp (too_short (get_or bs at 0) (omega (arith, c.wide-l.ensures)))) in
-    record { fault = both.0; line = both.1 }
-
-pub returns-then-l-gt-MOST_LENGTH : goal.returns-then-l-gt-MOST_LENGTH
-unfolding record_checks record_l first_fault refuse_if
-returns-then-l-gt-MOST_LENGTH c =
-    let bs = c.args.bytes.now in
-    let at = c.args.at in
-    let both = record_refused bs at c.no_record-then-l-gt-MOST_LENGTH.result (refusal 5 at) (c.no_record-then-l-gt-MOST_LENGTH.ensures ∙ c.fault_at-then-l-gt-MOST_LENGTH.ensures) (simp (too_long (get_or bs at 0) (omega (arith, c.wide-l.ensures)))) in
-    record { fault = both.0; line = both.1 }
-
-pub returns-then-l-ne0 : goal.returns-then-l-ne0
-unfolding record_checks record_l first_fault refuse_if
-returns-then-l-ne0 c =
-    let bs = c.args.bytes.now in
-    let at = c.args.at in
-    let both = record_refused bs at c.no_record-then-l-ne0.result (refusal 5 at) (c.no_record-then-l-ne0.ensures ∙ c.fault_at-then-l-ne0.ensures) (simp (odd c.wide-l.result c.if-l-ne0.true, ← c.wide-l.ensures.0)) in
+    let not : length_allowed (get_or bs at 0) ≡ false = ap length_allowed (sym c.wide-l.ensures.0) ∙ sym c.length_allowed.ensures ∙ c.if-not-length_allowed.true in
+    let both = record_refused bs at c.no_record.result (refusal 5 at) (c.no_record.ensures ∙ c.fault_at.ensures) (simp not) in
     record { fault = both.0; line = both.1 }
 
 pub returns-then-bytes-at : goal.returns-then-bytes-at
@@ -44,13 +28,19 @@ returns-then-bytes-at c =
     let bs = c.args.bytes.now in
     let at = c.args.at in
     let w = c.wide-l in
-    let fine : length_allowed (get_or bs at 0) ≡ true = ap length_allowed (sym w.ensures.0) ∙ allowed w.result (omega arith) (omega arith) c.if-l-ne0.false in
+    let fine : length_allowed (get_or bs at 0) ≡ true = ap length_allowed (sym w.ensures.0) ∙ sym c.length_allowed.ensures ∙ c.if-not-length_allowed.false in
     let both = record_refused bs at c.no_record-then-bytes-at.result (refusal 1 at) (c.no_record-then-bytes-at.ensures ∙ c.fault_at-then-bytes-at.ensures) (simp (fine, lt-ltb (length bs) (at + 1 + get_or bs at 0) (omega (arith, w.ensures.0)))) in
     record { fault = both.0; line = both.1 }
+
+pub line_at-line-requires : goal.line_at-line-requires
+line_at-line-requires c =
+    let range = allowed_range c.wide-l.result (sym c.length_allowed.ensures ∙ c.if-not-length_allowed.false) in
+    (c.requires, c.wide-l.ensures.0, range.0, range.1, omega arith)
 
 pub line_fault-fault-requires : goal.line_fault-fault-requires
 unfolding held_line line_at record_l
 line_fault-fault-requires c =
+    let range = allowed_range c.wide-l.result (sym c.length_allowed.ensures ∙ c.if-not-length_allowed.false) in
     let L = get_or c.args.bytes.now c.args.at 0 in
     let n : length (jobs_at ((L - 4) / 2) c.args.bytes.now (c.args.at + 5)) ≡ (L - 4) / 2 = length_jobs ((L - 4) / 2) c.args.bytes.now (c.args.at + 5) in
     let t : c.line_at-line.result.tasks ≡ length (jobs_at ((L - 4) / 2) c.args.bytes.now (c.args.at + 5)) = ap (λ l. l.tasks) c.line_at-line.ensures in
@@ -62,7 +52,7 @@ returns c =
     let bs = c.args.bytes.now in
     let at = c.args.at in
     let w = c.wide-l in
-    let fine : length_allowed (get_or bs at 0) ≡ true = ap length_allowed (sym w.ensures.0) ∙ allowed w.result (omega arith) (omega arith) c.if-l-ne0.false in
+    let fine : length_allowed (get_or bs at 0) ≡ true = ap length_allowed (sym w.ensures.0) ∙ sym c.length_allowed.ensures ∙ c.if-not-length_allowed.false in
     record {
       fault = simp (c.line_fault-fault.ensures, c.line_at-line.ensures, line_held_lem, fine, le-ltb (length bs) (at + 1 + get_or bs at 0) (omega (arith, w.ensures.0)));
       line = λ passed. c.line_at-line.ensures;
