@@ -16,7 +16,7 @@ use Rattle.arrivals.proofs.entries_fault.Goals.{In_default}
 pub returns-in-Found : goal.returns-in-Found
 returns-in-Found c =
     let found = fault_found _ _ (sym c.entry_fault-found.ensures ∙ c.in-Found.is) in
-    c.in-Found.is ∙ sym (stands_refused _ _ _ c.loop-at.invariant c.requires.1 c.loop-at-test.true _ found)
+    c.in-Found.is ∙ sym (stands_refused _ _ _ c.loop-at.invariant c.requires.1 (omega arith) _ found)
 
 -- an entry that is passed has no fault, so its bytes are all there
 nothing : (c : In_default) → first_fault (entry_checks (map line_held c.args.lines.now) c.args.h c.loop-at.before c.args.bytes.now c.loop-at.at) ≡ none
@@ -36,7 +36,7 @@ pub loop-at-preserved : goal.loop-at-preserved
 loop-at-preserved c = rw c.at-before.ensures.tick (on (goal.at.loop-at-preserved c).In_default)
 
 pub returns : goal.returns
-returns c = sym (stands_done _ _ _ c.loop-at.invariant c.loop-at-test.false)
+returns c = sym (stands_done _ _ _ c.loop-at.invariant (omega arith))
 
 -- the last entry ends the log
 pub returns-in_default : goal.returns-in_default
