@@ -6,15 +6,13 @@ use Prim.Native.Nat.{◌-◌, ◌/◌}
 use native.Mathlib.Omega.{arith}
 use lib.ListN.{length}
 use Rattle.base.specs.Refusals.{first_fault, refusal}
-use Rattle.rules.specs.ArrivalLog.{log_head_checks, horizon_checks, log_h, with_horizon}
+use Rattle.rules.specs.ArrivalLog.{log_head_checks, horizon_checks, log_h, with_horizon, read_entries}
 use Rattle.rules.specs.Values.{lines_held}
 use Rattle.base.proofs.Checks.{nothing_found, fault_found}
-use Rattle.arrivals.specs.LogAnswered.{answered}
-use Rattle.arrivals.specs.Limits.{held_entries_fault}
-use Rattle.arrivals.proofs.EntryChecks.{within}
+use Rattle.arrivals.specs.LogAnswered.{fault_in}
+use Rattle.arrivals.proofs.EntryChecks.{lines_fit}
 use Rattle.rules.proofs.WholeFile.{head_whole}
-use Rattle.arrivals.proofs.LogReading.{Room, horizon_room, head_refused, horizon_refused, entries_read, entries_refused, entries_taken, refused_answer}
-use Rattle.arrivals.proofs.PlaceLaws.{length_from}
+use Rattle.arrivals.proofs.LogReading.{Room, horizon_room, head_refused, horizon_refused, entries_read, entries_refused, entries_taken, refused_answer, taken_answer}
 use Rattle.arrivals.proofs.read_log.Goals as goal
 use Rattle.arrivals.proofs.read_log.Goals.{In_default, In_default-horizon_fault}
 
@@ -51,34 +49,28 @@ number32-horizon-requires c = omega (arith, room (goal.at.number32-horizon-requi
 
 pub entries_fault-requires : goal.entries_fault-requires
 entries_fault-requires c =
-    ((room (goal.at.entries_fault-requires c).In_default-horizon_fault).least, (room (goal.at.entries_fault-requires c).In_default-horizon_fault).most, within c.args.table _ _ c.requires c.task_counts-tasks.ensures c.longest_jobs-longest.ensures)
+    let r = room (goal.at.entries_fault-requires c).In_default-horizon_fault in
+    (r.least, r.most, lines_fit c.args.table c.requires)
 
 pub returns-in-Found-entries_fault : goal.returns-in-Found-entries_fault
-unfolding log_h with_horizon
+unfolding log_h with_horizon lines_held
 returns-in-Found-entries_fault c =
-    let table = c.args.table in
+    let ls = lines_held c.args.table in
     let bs = c.args.bytes.now in
-    let tasks = c.task_counts-tasks.result in
-    let longest = c.longest_jobs-longest.result in
-    let found = ap (λ h. held_entries_fault table.booths tasks longest h bs) (sym c.number32-horizon.ensures) ∙ fault_found _ _ (sym c.entries_fault.ensures ∙ c.in-Found-entries_fault.is) in
-    refused_answer (lines_held table) bs c.refused-in-Found-entries_fault.result c.in-Found-entries_fault.refusal c.refused-in-Found-entries_fault.ensures
-    (entries_read (lines_held table) bs (head (goal.at.returns-in-Found-entries_fault c).In_default) (horizon (goal.at.returns-in-Found-entries_fault c).In_default-horizon_fault) _
-    (entries_refused table tasks longest c.requires c.task_counts-tasks.ensures c.longest_jobs-longest.ensures (log_h bs) bs (room (goal.at.returns-in-Found-entries_fault c).In_default-horizon_fault).least (room (goal.at.returns-in-Found-entries_fault c).In_default-horizon_fault).most _ found))
+    let found = ap (λ h. fault_in (read_entries 4096 ls h 0 bs 9)) (sym c.number32-horizon.ensures) ∙ sym c.entries_fault.ensures ∙ c.in-Found-entries_fault.is in
+    refused_answer ls bs c.refused-in-Found-entries_fault.result c.in-Found-entries_fault.refusal c.refused-in-Found-entries_fault.ensures
+    (entries_read ls bs (head (goal.at.returns-in-Found-entries_fault c).In_default) (horizon (goal.at.returns-in-Found-entries_fault c).In_default-horizon_fault) _
+    (entries_refused _ _ found))
 
 pub overflow_sub-result : goal.overflow_sub-result
 overflow_sub-result c = omega (arith, room (goal.at.overflow_sub-result c).In_default-horizon_fault)
 
 pub returns : goal.returns
-unfolding log_h with_horizon answered refusal
+unfolding log_h lines_held refusal
 returns c =
-    let table = c.args.table in
+    let ls = lines_held c.args.table in
     let bs = c.args.bytes.now in
-    let tasks = c.task_counts-tasks.result in
-    let longest = c.longest_jobs-longest.result in
-    let n = (length bs - 9) / 9 in
-    let found = ap (λ h. held_entries_fault table.booths tasks longest h bs) (sym c.number32-horizon.ensures) ∙ nothing_found _ (sym c.entries_fault.ensures ∙ c.in_default-entries_fault.is) in
-    let read = entries_read (lines_held table) bs (head (goal.at.returns c).In_default) (horizon (goal.at.returns c).In_default-horizon_fault) _
-    (entries_taken table tasks longest c.requires c.task_counts-tasks.ensures c.longest_jobs-longest.ensures (log_h bs) bs (room (goal.at.returns c).In_default-horizon_fault).least (room (goal.at.returns c).In_default-horizon_fault).most found) in
-    ap (λ h. record { refusal = record { number = 0; place = 0 }; horizon = h; entries = n }) c.number32-horizon.ensures
-    ∙ ap (λ m. record { refusal = record { number = 0; place = 0 }; horizon = log_h bs; entries = m }) (sym (length_from n bs 9))
-    ∙ sym (ap answered read)
+    let found = ap (λ h. fault_in (read_entries 4096 ls h 0 bs 9)) (sym c.number32-horizon.ensures) ∙ sym c.entries_fault.ensures ∙ c.in_default-entries_fault.is in
+    let (es, read) = entries_taken _ found in
+    ap (λ h. record { refusal = record { number = 0; place = 0 }; horizon = h; entries = (length bs - 9) / 9 }) c.number32-horizon.ensures
+    ∙ taken_answer ls bs (head (goal.at.returns c).In_default) (horizon (goal.at.returns c).In_default-horizon_fault) es read
