@@ -1,8 +1,8 @@
--- `arrivals::entries_fault` meets its contract: the reader stands where entries are still to be checked. Assumes nothing.
+-- `arrivals::check_entries` meets its contract: the reader stands where entries are still to be checked. Assumes nothing.
 use mathlib.Core.List.{map}
 use Rattle.rules.specs.Values.{line_held}
 use Rattle.arrivals.proofs.LogReading.{Standing}
-use Rattle.arrivals.proofs.entries_fault.Given as goal
+use Rattle.arrivals.proofs.check_entries.Given as goal
 
 abbrev pub invariant-loop-at : goal.invariant-loop-at
 invariant-loop-at l = Standing (map line_held l.lines) l.h l.bytes l.before l.at
