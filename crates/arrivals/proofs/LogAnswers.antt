@@ -12,7 +12,7 @@ use Rattle.rules.specs.ArrivalLog.{Log, read_log}
 use Rattle.arrivals.specs.declared.LogAnswer.{LogAnswer}
 use Rattle.arrivals.specs.LogAnswered.{counted}
 
-module _ (ls : List Line) (bs : List ℕ) (r : Result LogAnswer HeldRefusal) (is : as_read r ≡ taken_as counted (read_log ls bs)) where
+module _ (ls : List Line) (bs : List ℕ) where
   -- the answer has the log's wall ticks and the number of its entries
   pub record Took (a : LogAnswer) : Type 0 where
     pub log : Log
@@ -20,11 +20,12 @@ module _ (ls : List Line) (bs : List ℕ) (r : Result LogAnswer HeldRefusal) (is
     pub horizon : a.horizon ≡ log.horizon
     pub entries : a.entries ≡ length log.entries
 
-  pub log_taken : (a : LogAnswer) → r ≡ Ok a → Took a
-  unfolding counted
-  log_taken a e =
-      let k = took counted (read_log ls bs) r a is e in
-      record { log = k.0; read = k.1.0; horizon = ap (λ x. x.horizon) k.1.1; entries = ap (λ x. x.entries) k.1.1 }
+  module _ (r : Result LogAnswer HeldRefusal) (is : as_read r ≡ taken_as counted (read_log ls bs)) where
+    pub log_taken : (a : LogAnswer) → r ≡ Ok a → Took a
+    unfolding counted
+    log_taken a e =
+        let k = took counted (read_log ls bs) r a is e in
+        record { log = k.0; read = k.1.0; horizon = ap (λ x. x.horizon) k.1.1; entries = ap (λ x. x.entries) k.1.1 }
 
-  pub log_declined : (why : HeldRefusal) → r ≡ Err why → read_log ls bs ≡ refused (said why)
-  log_declined why e = declined counted (read_log ls bs) r why is e
+    pub log_declined : (why : HeldRefusal) → r ≡ Err why → read_log ls bs ≡ refused (said why)
+    log_declined why e = declined counted (read_log ls bs) r why is e

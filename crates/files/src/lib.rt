@@ -1,57 +1,29 @@
 // The two files of a session, read in the one order in which every call takes them: the table, then the log over its lines.
 #![tactic(auto)]
 
-ghost use Rattle.std.specs.Prelude.{◌≡◌};
-ghost use Rattle.rules.specs.Files.{one_refused};
-ghost use Rattle.rules.specs.Verdicts.{refused_as};
-ghost use Rattle.files.specs.Told.{told, FilesRead};
+ghost use Rattle.std.specs.Prelude.{◌≡◌, IfOk, IfErr};
+ghost use Rattle.rules.specs.Files.{one_refused, read_files};
+ghost use Rattle.rules.specs.Verdicts.{verdict_said};
+ghost use Rattle.files.specs.FilesTaken.{FilesTaken};
 
-use base::Refusal;
-use rules::{BOOTHS_ALLOWED, Refused, Table, Verdict};
+use rules::{Refused, Table};
 
-// The verdict on both files; with number 0 the table and the session's wall ticks, and else zeros.
+// What both files hold: the table, and the session's wall ticks.
 #[derive(Clone, Copy)]
 pub struct Files {
-    pub verdict: Verdict,
     pub table: Table,
     pub horizon: u32,
 }
 
-// One of them is refused.
-fn refused_file(refused: Refused, refusal: Refusal) -> Files
-    ensures { result ≡ told (one_refused (refused_as refused refusal)) }
-{
-    let line = table::no_line();
-    let table = Table {
-        booths: 0,
-        lines: [line; BOOTHS_ALLOWED],
-    };
-    let verdict = Verdict { refused, refusal };
-    Files {
-        verdict,
-        table,
-        horizon: 0,
-    }
-}
-
 // Any bytes as table and log.
-pub fn read_files(table: &[u8], log: &[u8]) -> Files
-    ensures { FilesRead table.now log.now result }
+pub fn read_files(table: &[u8], log: &[u8]) -> Result<Files, Refused>
+    ensures taken { IfOk result (λ files. FilesTaken table.now log.now files) }
+    ensures refused { IfErr result (λ why. read_files table.now log.now ≡ one_refused (verdict_said why)) }
 {
-    let read = table::read_table(table);
-    let refusal = read.refusal;
-    if refusal.number != 0 {
-        return refused_file(Refused::TheTable, refusal);
-    }
-    let held = read.table;
-    let logged = arrivals::read_log(held, log);
-    let log_refusal = logged.refusal;
-    if log_refusal.number != 0 {
-        return refused_file(Refused::TheLog, log_refusal);
-    }
-    Files {
-        verdict: rules::accepted(),
-        table: held,
-        horizon: logged.horizon,
-    }
+    let table = table::read_table(table).map_err(Refused::Table)?;
+    let answer = arrivals::read_log(table, log).map_err(Refused::Log)?;
+    Ok(Files {
+        table,
+        horizon: answer.horizon,
+    })
 }
