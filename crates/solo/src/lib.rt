@@ -80,7 +80,7 @@ impl Player {
 
     // The next entry is passed, and asks its task if it is the booth's.
     fn pass(mut self, booth: &SoloBooth) -> Self
-        requires { Place booth.now.log.now self.next × (self.next < length booth.now.log.now) × (length self.left ≡ 8) × ((k : ℕ) → get_or self.left k 0 ≤ 65535 * 4097) }
+        requires { Place booth.now.log.now self.next × (self.next < length booth.now.log.now) × ((k : ℕ) → get_or self.left k 0 ≤ 65535 * 4097) }
         ensures { Passed booth.now self result }
     {
         let at = self.next;
@@ -112,6 +112,7 @@ impl Player {
     {
         self = self.admit(booth, u);
         let task = rules::first_task(self.left);
+        // `as`, since there is no From between these sizes, and a TryFrom would answer an error that cannot come.
         part[u.0 as usize] = task as u8;
         if task != NOBODY {
             self.left[task] -= 1;
