@@ -15,7 +15,7 @@ use arrivals::FIRST_ENTRY;
 use base::Fault;
 use rules::{ENTRY_BYTES, Line, OwnTick, Refused, TASKS_ALLOWED, Table, Verdict, WallTick};
 
-// Stands in a part where no task plays.
+// Stands in a part where no task plays; `as`, since From is not called in a constant.
 const NOBODY: usize = rules::NOBODY as usize;
 
 // A booth that plays alone, as it stays throughout: the log that was taken, its number and its line.

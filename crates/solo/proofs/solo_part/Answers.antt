@@ -29,9 +29,6 @@ returns-then-refusal-ne0 c =
 both : (c : Else-refusal-ne0) → FilesTaken c.args.table.now c.args.log.now c.read_files-files.result
 both c = c.read_files-files.ensures.taken c.if-refusal-ne0.false
 
-pub call_fault-requires : goal.call_fault-requires
-call_fault-requires c = (both (goal.at.call_fault-requires c).Else-refusal-ne0).fit
-
 pub returns-in-Found : goal.returns-in-Found
 unfolding refused_as log_of
 returns-in-Found c =
