@@ -7,6 +7,7 @@ use Prim.Native.Nat.{ℕ, suc, ◌+◌, ◌-◌, ◌≤◌, ◌<◌}
 use native.Mathlib.Decide.{ℕ_discrete, dec_le}
 use native.Mathlib.Numerals.{add-one}
 use native.Mathlib.Omega.{arith}
+use Rattle.std.specs.Prelude.{Option, Some, None, IsSomeAnd, IfSome}
 use lib.Dec.{ltb}
 use lib.ListN.{length, get_or, set, drop, length-set, length-append}
 use lib.Seq.{get_or-set_same, get_or-set_other, length-take-le, set_at, drop-cons, append_snoc}
@@ -16,7 +17,7 @@ use Rattle.rules.specs.declared.OwnTick.{OwnTick}
 use Rattle.base.specs.Bytes.{written}
 use Rattle.rules.specs.BoothTable.{Line}
 use Rattle.rules.specs.ArrivalLog.{Entry, entry_at}
-use Rattle.rules.specs.Due.{release_point}
+use Rattle.rules.specs.Due.{due, release_point}
 use Rattle.rules.specs.Moves.{nobody, first_task}
 use Rattle.rules.specs.Session.{count}
 use Rattle.rules.specs.SoloPart.{asked, first_that, solo}
@@ -25,7 +26,9 @@ use Rattle.rules.proofs.Counting.{count_nil, count_append, count_same, count_oth
 use Rattle.laws.proofs.Opening.{length_solo}
 use Rattle.laws.proofs.LentRows.{length_written}
 use Rattle.solo.specs.declared.Player.{Player}
-use Rattle.solo.specs.Alone.{Alone, Point, Plays, Admitted, Passed, own_tick, never}
+use Rattle.solo.specs.declared.SoloBooth.{SoloBooth}
+use Rattle.solo.specs.Alone.{Alone, own_tick}
+use Rattle.solo.specs.Played.{Point, Plays, Admitted, Passed}
 use Rattle.arrivals.specs.Places.{waiting_at, Place}
 use Rattle.arrivals.proofs.PlaceLaws.{first_place, whole_entry, waiting_own, waiting_other}
 use Rattle.solo.proofs.AskedSoFar.{asked_task, asked_elsewhere, none_asked}
@@ -36,15 +39,36 @@ use Rattle.rules.proofs.FirstThat.{found, alike}
 stored : (xs : List ℕ) (i v k : ℕ) → i < length xs → (k ≡ i → get_or (set xs i v) k 0 ≡ v) × (k ≢ i → get_or (set xs i v) k 0 ≡ get_or xs k 0)
 stored xs i v k h = ((λ e. ap (λ j. get_or (set xs i v) j 0) e ∙ get_or-set_same xs i v 0 h), get_or-set_other xs i k v 0)
 
-module _ (bs : List ℕ) (line : HeldLine) (booth : ℕ) (a : Alone bs line booth) where
+-- a release point that is reached, and one that is not
+due_by : (point : Option OwnTick) (d u : ℕ) → IsSomeAnd point (λ p. p.0 ≡ d) → IsSomeAnd point (λ p. p.0 ≤ u) → d ≤ u
+due_by (Some p) d u is early = omega (arith, is, early)
+due_by None d u is early = absurd is
+
+due_later : (point : Option OwnTick) (d u : ℕ) → IsSomeAnd point (λ p. p.0 ≡ d) → IfSome point (λ p. u < p.0) → u < d
+due_later (Some p) d u is later = omega (arith, is, later)
+due_later None d u is later = absurd is
+
+module _ (b : SoloBooth) where
+  abbrev bs : List ℕ
+  bs = b.log.now
+
+  abbrev line : HeldLine
+  line = b.line
+
+  abbrev booth : ℕ
+  booth = b.number
+
+  abbrev a : Alone bs line booth
+  a = b.alone
+
   abbrev l : Line
   l = line_held line
 
   abbrev es : List Entry
   es = waiting_at bs booth 9
 
-  pub starts : (point : OwnTick) (left : List ℕ) → Point bs line 9 point.0 → length left ≡ 8 → ((k : ℕ) → get_or left k 0 ≡ 0)
-      → Plays bs line booth 0 (record { next = 9; point = point; left = left })
+  pub starts : (point : Option OwnTick) (left : List ℕ) → Point b 9 point → length left ≡ 8 → ((k : ℕ) → get_or left k 0 ≡ 0)
+      → Plays b 0 (record { next = 9; point = point; left = left })
   unfolding solo
   starts point left p e z = record {
     place = first_place a.log;
@@ -57,14 +81,14 @@ module _ (bs : List ℕ) (line : HeldLine) (booth : ℕ) (a : Alone bs line boot
 
   -- ---- an entry whose point is reached
 
-  pub there : (u : ℕ) (p : Player) → Plays bs line booth u p → p.point.0 ≤ u → u < never → p.next < length bs
-  there u p plays reached early = go (dec_le (length bs) p.next)
+  pub there : (u : ℕ) (p : Player) → Plays b u p → IsSomeAnd p.point (λ point. point.0 ≤ u) → p.next < length bs
+  there u p plays reached = go (dec_le (length bs) p.next)
     where
       go : Dec (length bs ≤ p.next) → p.next < length bs
-      go (yes h) = absurd (omega (arith, plays.point.none h))
+      go (yes h) = absurd (subst (λ o. IsSomeAnd o (λ point. point.0 ≤ u)) (plays.point.none h) reached)
       go (no h) = omega arith
 
-  module _ (u : ℕ) (p r : Player) (plays : Plays bs line booth u p) (reached : p.point.0 ≤ u) (inside : p.next < length bs) (passed : Passed bs line booth p r) where
+  module _ (u : ℕ) (p r : Player) (plays : Plays b u p) (reached : IsSomeAnd p.point (λ point. point.0 ≤ u)) (inside : p.next < length bs) (passed : Passed b p r) where
     abbrev e : Entry
     e = entry_at bs p.next
 
@@ -111,7 +135,7 @@ module _ (bs : List ℕ) (line : HeldLine) (booth : ℕ) (a : Alone bs line boot
         sums : (n k : ℕ) → u ≤ n → Dec (k ≡ e.task)
             → get_or r.left k 0 + asked l (waiting_at bs booth (p.next + 9)) n k ≡ get_or p.left k 0 + asked l (waiting_at bs booth p.next) n k
         sums n k h (yes q) =
-            omega (arith, here k q, now_waiting n k, asked_task l e (waiting_at bs booth (p.next + 9)) n k (omega (arith, plays.point.some inside)) (sym q))
+            omega (arith, here k q, now_waiting n k, asked_task l e (waiting_at bs booth (p.next + 9)) n k (omega (arith, due_by p.point (due line.promise e.tick) u (plays.point.some inside) reached)) (sym q))
         sums n k h (no q) = omega (arith, elsewhere k q, now_waiting n k, asked_elsewhere l e (waiting_at bs booth (p.next + 9)) n k (λ z. q (sym z)))
 
     kept_other : e.booth ≢ booth → Kept
@@ -128,14 +152,14 @@ module _ (bs : List ℕ) (line : HeldLine) (booth : ℕ) (a : Alone bs line boot
     kept (yes o) = kept_own o
     kept (no o) = kept_other o
 
-    pub plays_on : Plays bs line booth u r
+    pub plays_on : Plays b u r
     unfolding Kept
     plays_on =
         let k = kept (ℕ_discrete e.booth booth) in
         let whole = whole_entry bs p.next plays.place inside in
         record {
           place = subst (Place bs) (sym passed.next) whole.1;
-          point = subst (λ i. Point bs line i r.point.0) (sym passed.next) passed.point;
+          point = subst (λ i. Point b i r.point) (sym passed.next) passed.point;
           eight = k.0;
           rest = λ j h. k.1 j h ∙ plays.rest j h;
           room = λ j. omega (arith, passed.next, whole.0, k.2 j, plays.room j);
@@ -148,7 +172,7 @@ module _ (bs : List ℕ) (line : HeldLine) (booth : ℕ) (a : Alone bs line boot
   unfolding line_held
   tasks_are = length-take-le line.tasks line.longest (omega (arith, a.tasks, a.eight))
 
-  module _ (u : ℕ) (p : Player) (now : Admitted bs line booth u p) where
+  module _ (u : ℕ) (p : Player) (now : Admitted b u p) where
     abbrev tick : ℕ
     tick = own_tick l es u
 
@@ -157,7 +181,7 @@ module _ (bs : List ℕ) (line : HeldLine) (booth : ℕ) (a : Alone bs line boot
         omega (
           arith,
           now.plays.sums u k (omega arith) h,
-          none_asked bs line booth a p.next u k now.plays.place (λ i. omega (arith, now.later, now.plays.point.some i)),
+          none_asked bs line booth a p.next u k now.plays.place (λ i. due_later p.point _ u (now.plays.point.some i) now.later),
         )
 
     asks : (k : ℕ) → k < line.tasks → ltb 0 (get_or p.left k 0) ≡ ltb (count k (solo l es u)) (asked l es u k)
@@ -198,7 +222,7 @@ module _ (bs : List ℕ) (line : HeldLine) (booth : ℕ) (a : Alone bs line boot
     solo_step = rw (add-one u)
 
     turn : (left : List ℕ) → length left ≡ 8 → ((k : ℕ) → get_or left k 0 ≤ get_or p.left k 0) → ((k : ℕ) → k < line.tasks → get_or p.left k 0 ≡ get_or left k 0 + count k (tick ∷ []))
-        → Plays bs line booth (u + 1) (record { next = p.next; point = p.point; left = left })
+        → Plays b (u + 1) (record { next = p.next; point = p.point; left = left })
     turn left e less lost = record {
       place = now.plays.place;
       point = now.plays.point;
@@ -208,12 +232,12 @@ module _ (bs : List ℕ) (line : HeldLine) (booth : ℕ) (a : Alone bs line boot
       sums = λ n k h j. omega (arith, now.plays.sums n k (omega arith) j, lost k j, ap (count k) solo_step, count_append k (solo l es u) (tick ∷ []));
     }
 
-    pub silent : tick ≡ nobody → Plays bs line booth (u + 1) p
+    pub silent : tick ≡ nobody → Plays b (u + 1) p
     silent z =
         turn p.left now.plays.eight (λ k. omega arith)
         (λ k h. omega (arith, count_other k tick [] (λ q. absurd (omega (arith, a.tasks))), count_nil k))
 
-    pub worked : tick ≢ nobody → Plays bs line booth (u + 1) (record { next = p.next; point = p.point; left = set p.left tick (get_or p.left tick 0 - 1) })
+    pub worked : tick ≢ nobody → Plays b (u + 1) (record { next = p.next; point = p.point; left = set p.left tick (get_or p.left tick 0 - 1) })
     worked some =
         turn after (length-set p.left tick (get_or p.left tick 0 - 1) ∙ now.plays.eight) (λ k. less k (ℕ_discrete k tick)) (λ k h. lost k (ℕ_discrete k tick))
       where
@@ -244,7 +268,7 @@ module _ (bs : List ℕ) (line : HeldLine) (booth : ℕ) (a : Alone bs line boot
 
 pub none_written : (l : Line) (es : List Entry) (lent : List ℕ) → lent ≡ written 0 (solo l es 0) lent
 unfolding written solo
-none_written l es lent = refl
+none_written _ _ _ = refl
 
 pub length_part : (l : Line) (es : List Entry) (u : ℕ) (part lent : List ℕ) → u ≤ length lent → part ≡ written 0 (solo l es u) lent → length part ≡ length lent
 length_part l es u part lent h e = ap length e ∙ length_written 0 (solo l es u) lent (omega (arith, length_solo l es u))

@@ -29,9 +29,6 @@ returns-then-refusal-ne0 c =
 both : (c : Else-refusal-ne0) → FilesTaken c.args.table.now c.args.log.now c.read_files-files.result
 both c = c.read_files-files.ensures.taken c.if-refusal-ne0.false
 
-pub call_fault-requires : goal.call_fault-requires
-call_fault-requires c = (both (goal.at.call_fault-requires c).Else-refusal-ne0).fit
-
 pub returns-in-Found : goal.returns-in-Found
 unfolding refused_as log_of
 returns-in-Found c =
@@ -58,17 +55,21 @@ eight c = omega (arith, present c, (c.read_files-files.ensures.taken c.if-refusa
 few : (c : In_default) → c.args.n ≤ 1000000
 few c = due_small _ _ _ (c.read_files-files.ensures.taken c.if-refusal-ne0.false) _ (present c) _ (fits c).few
 
-pub offset_bounds-lines-booth : goal.offset_bounds-lines-booth
-offset_bounds-lines-booth c = omega (arith, eight (goal.at.offset_bounds-lines-booth c).In_default)
+pub offset_bounds-held-booth : goal.offset_bounds-held-booth
+offset_bounds-held-booth c = omega (arith, eight (goal.at.offset_bounds-held-booth c).In_default)
 
-pub bounds-lines-booth : goal.bounds-lines-booth
-bounds-lines-booth c = eight (goal.at.bounds-lines-booth c).In_default
+pub bounds-held-booth : goal.bounds-held-booth
+bounds-held-booth c = eight (goal.at.bounds-held-booth c).In_default
 
 pub overflow_cast-n : goal.overflow_cast-n
 overflow_cast-n c = omega (arith, few (goal.at.overflow_cast-n c).In_default)
 
+pub invariant_of-alone : goal.invariant_of-alone
+invariant_of-alone c =
+    record { alone = alone _ _ _ (both (goal.at.invariant_of-alone c).Else-refusal-ne0) _ (present (goal.at.invariant_of-alone c).In_default) }
+
 pub write_part-requires : goal.write_part-requires
-write_part-requires c = (alone _ _ _ (both (goal.at.write_part-requires c).Else-refusal-ne0) _ (present (goal.at.write_part-requires c).In_default), few (goal.at.write_part-requires c).In_default, (fits (goal.at.write_part-requires c).In_default).room)
+write_part-requires c = (fits (goal.at.write_part-requires c).In_default).room
 
 pub returns : goal.returns
 unfolding log_of entries_of waiting_at
