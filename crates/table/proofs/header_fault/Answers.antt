@@ -1,6 +1,5 @@
 -- `table::header_fault` meets its contract: the file's head, then whether a booth follows. Assumes nothing.
-use mathlib.Core.Path.{◌≡◌, refl, sym, ap, ◌∙◌}
-use mathlib.Core.Logic.{inl}
+use mathlib.Core.Path.{◌≡◌, sym, ap, ◌∙◌}
 use mathlib.Core.Option.{none}
 use native.Mathlib.Omega.{arith}
 use borrow.Author.Tests.{eq-eqb, ne_eqb}
@@ -11,9 +10,6 @@ use Rattle.rules.specs.BoothTable.{table_n, header_checks}
 use Rattle.rules.proofs.WholeFile.{head_whole}
 use Rattle.table.proofs.header_fault.Goals as goal
 use Rattle.table.proofs.header_fault.Goals.{In_default}
-
-pub head_fault-found-requires : goal.head_fault-found-requires
-head_fault-found-requires c = inl refl
 
 pub returns-in-Found : goal.returns-in-Found
 unfolding header_checks fault_of

@@ -46,14 +46,11 @@ line_fault-fault-requires c =
     let t : c.line_at-line.result.tasks ≡ length (jobs_at ((L - 4) / 2) c.args.bytes.now (c.args.at + 5)) = ap (λ l. l.tasks) c.line_at-line.ensures in
     omega (arith, c.wide-l.ensures)
 
-pub returns : goal.returns
+pub returns-clause-fault : goal.returns-clause-fault
 unfolding record_checks record_l record_end first_fault refuse_if
-returns c =
+returns-clause-fault c =
     let bs = c.args.bytes.now in
     let at = c.args.at in
     let w = c.wide-l in
     let fine : length_allowed (get_or bs at 0) ≡ true = ap length_allowed (sym w.ensures.0) ∙ sym c.length_allowed.ensures ∙ c.if-not-length_allowed.false in
-    record {
-      fault = simp (c.line_fault-fault.ensures, c.line_at-line.ensures, line_held_lem, fine, le-ltb (length bs) (at + 1 + get_or bs at 0) (omega (arith, w.ensures.0)));
-      line = λ passed. c.line_at-line.ensures;
-    }
+    simp (c.line_fault-fault.ensures, c.line_at-line.ensures, line_held_lem, fine, le-ltb (length bs) (at + 1 + get_or bs at 0) (omega (arith, w.ensures.0)))
