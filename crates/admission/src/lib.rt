@@ -49,6 +49,7 @@ fn passes(above: &[Line], line: &Line) -> bool
 {
     let Promise { period, allowance } = line.promise;
     let mut r = allowance;
+    // R moves on by what was asked for, not by one, so no for counts it.
     while r <= period {
         let asked = allowance + asked_above(above, r);
         if asked <= r {

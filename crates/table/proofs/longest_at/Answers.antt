@@ -1,5 +1,5 @@
 -- `table::longest_at` meets its contract: the array holds the first k jobs. Assumes nothing.
-use mathlib.Core.Path.{◌≡◌, refl, ap, ◌∙◌}
+use mathlib.Core.Path.{refl}
 use native.Mathlib.Omega.{arith}
 use Rattle.rules.specs.BoothTable.{jobs_at}
 use Rattle.rules.specs.Values.{padded}
@@ -14,8 +14,3 @@ pub loop-k-preserved : goal.loop-k-preserved
 loop-k-preserved c =
     let now = c.loop-k in
     job_stored now.longest now.k c.args.bytes.now c.args.at c.number.result now.invariant (omega arith) c.number.ensures.0
-
-pub returns : goal.returns
-returns c =
-    let k : c.loop-k.k ≡ c.args.tasks = omega arith in
-    c.loop-k.invariant ∙ ap (λ n. padded 8 0 (jobs_at n c.args.bytes.now c.args.at)) k
