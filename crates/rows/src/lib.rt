@@ -2,52 +2,47 @@
 #![tactic(auto)]
 
 ghost use Rattle.std.specs.Prelude.{◌≡◌};
-ghost use Rattle.base.specs.Refusals.{first_fault, fault_of};
+ghost use Rattle.base.specs.Refusals.{first_fault, fault_in};
 ghost use Rattle.rules.specs.RowBack as page;
+ghost use Rattle.rules.specs.Verdicts.{verdict_in};
 
-use base::Fault;
-use rules::{BOOTHS_ALLOWED, LONGEST_SESSION, Refused, Verdict};
+use base::{Reason, Refusal};
+use rules::{BOOTHS_ALLOWED, LONGEST_SESSION, Refused};
 
 // A row has a place for every wall tick.
 const LONGEST_ROW: usize = LONGEST_SESSION as usize;
 
 // Booth, H, count, then the end, each tested before it is multiplied, so that no product is too large.
-fn row_fault(own: &[u8], h: usize, booth: usize, count: usize) -> Fault
-    ensures { result ≡ fault_of (first_fault (page.row_checks own.now h booth count)) }
+fn check_row(own: &[u8], h: usize, booth: usize, count: usize) -> Result<(), Refusal>
+    ensures { fault_in result ≡ first_fault (page.row_checks own.now h booth count) }
 {
     if BOOTHS_ALLOWED <= booth {
-        return base::fault_at(base::DOES_NOT_FIT, 0);
+        return Err(Reason::DoesNotFit.at(0));
     }
     if LONGEST_ROW < h {
-        return base::fault_at(base::DOES_NOT_FIT, 0);
+        return Err(Reason::DoesNotFit.at(0));
     }
     if h < count {
-        return base::fault_at(base::DOES_NOT_FIT, 0);
+        return Err(Reason::DoesNotFit.at(0));
     }
     if own.len() < booth * h + count {
-        return base::fault_at(base::DOES_NOT_FIT, 0);
+        return Err(Reason::DoesNotFit.at(0));
     }
-    Fault::Nothing
+    Ok(())
 }
 
-// Number 0 where `row_back` hands a row back, 11 where its part is empty because the call does not fit.
-pub fn row_verdict(own: &[u8], h: usize, booth: usize, count: usize) -> Verdict
-    ensures { result ≡ (page.row_back own.now h booth count).verdict }
+// Whether `row_back` hands a row back, or why its part is empty: the call does not fit.
+pub fn row_verdict(own: &[u8], h: usize, booth: usize, count: usize) -> Result<(), Refused>
+    ensures { verdict_in result ≡ (page.row_back own.now h booth count).verdict }
 {
-    if let Fault::Found(refusal) = row_fault(own, h, booth, count) {
-        return Verdict {
-            refused: Refused::TheCall,
-            refusal,
-        };
-    }
-    rules::accepted()
+    check_row(own, h, booth, count).map_err(Refused::Call)
 }
 
 // The caller's own bytes, `count` of them from `booth` times `h`, or the empty part.
 pub fn row_back(own: &[u8], h: usize, booth: usize, count: usize) -> &[u8]
     ensures { result.now ≡ (page.row_back own.now h booth count).part }
 {
-    if let Fault::Found(_) = row_fault(own, h, booth, count) {
+    if check_row(own, h, booth, count).is_err() {
         return &own[0..0];
     }
     let start = booth * h;
