@@ -67,13 +67,17 @@ module _ (worked dueThen : ℕ) (got : Float) where
   unfolding reading_of
   reading_below h = rw (lt-ltb worked dueThen h, reading_of)
 
-  pub reading_at_ceiling : dueThen ≤ worked → worked ≡ dueThen → reading_of worked dueThen got ≡ at_ceiling got
+  pub reading_at_ceiling : worked ≡ dueThen → reading_of worked dueThen got ≡ at_ceiling got
   unfolding reading_of
-  reading_at_ceiling h e = rw (le-ltb worked dueThen h, reading_of) (rw (eq-eqb worked dueThen e))
+  reading_at_ceiling e =
+      let least : dueThen ≤ worked = omega arith in
+      rw (le-ltb worked dueThen least, reading_of) (rw (eq-eqb worked dueThen e))
 
-  pub reading_over : dueThen ≤ worked → (worked ≡ dueThen → ⊥) → reading_of worked dueThen got ≡ over got
+  pub reading_over : dueThen < worked → reading_of worked dueThen got ≡ over got
   unfolding reading_of
-  reading_over h e = rw (le-ltb worked dueThen h, reading_of) (rw (ne_eqb worked dueThen e))
+  reading_over h =
+      let least : dueThen ≤ worked = omega arith in
+      rw (le-ltb worked dueThen least, reading_of) (rw (ne_eqb worked dueThen (λ e. omega arith)))
 
 -- ---- the row
 

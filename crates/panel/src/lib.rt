@@ -39,7 +39,7 @@ fn share(part: u32, whole: u32) -> f64
     ensures once { result ≡ page.share part whole }
     ensures exact { ExactAtPowers part whole result }
 {
-    part as f64 / whole as f64
+    f64::from(part) / f64::from(whole)
 }
 
 // Each tick of a block is counted in a lane of its own, a byte wide: the compiler counts sixteen lanes in one register, and
@@ -102,13 +102,11 @@ fn worked_ticks(wall: &[u8], booth: usize, t: u32) -> u32
 fn reading_of(worked: u32, due: u32, got: f64) -> Reading
     ensures { result ≡ shown_reading (page.reading_of worked due got) }
 {
-    if worked < due {
-        return Reading::Below(got);
+    match worked.cmp(&due) {
+        Ordering::Less => Reading::Below(got),
+        Ordering::Equal => Reading::AtCeiling(got),
+        Ordering::Greater => Reading::Over(got),
     }
-    if worked == due {
-        return Reading::AtCeiling(got);
-    }
-    Reading::Over(got)
 }
 
 // The row of a booth that worked so many of the first `t` ticks.
