@@ -2,16 +2,17 @@
 use mathlib.Core.Path.{◌≡◌, refl, sym, ap, ◌∙◌, subst}
 use mathlib.Core.List.{List, [], ◌∷◌, ◌++◌}
 use mathlib.Core.Option.{Option, none, some}
-use Prim.Native.Nat.{ℕ, suc, ◌+◌, ◌-◌, ◌^◌, ◌≤◌, ◌<◌}
+use Prim.Native.Nat.{ℕ, suc, ◌+◌, ◌^◌, ◌≤◌, ◌<◌}
 use native.Mathlib.Nat.{le_trans, lt_of_le_of_lt, lt_irrefl}
-use native.Mathlib.Numerals.{add-one}
 use native.Mathlib.Omega.{arith}
 use borrow.Author.Tests.{eq-eqb, ne_eqb, lt-ltb, le-ltb, le-leb, lt-leb, ltb-false}
-use lib.Dec.{lit<}
+use lib.Dec.{lit<, eqb}
 use lib.Pow.{pow_pos}
 use lib.Ieee.{Float}
 use lib.ListN.{length, take, drop, get_or, length-take, take-append-drop}
-use lib.Seq.{take-suc, take-add}
+use Rattle.std.specs.List.{count_by}
+use Rattle.std.proofs.lemmas.List.Sums.{sum_by-cons, sum_by_more}
+use mathlib.Core.Bool.{Bool, true, false, cond}
 use Rattle.rules.specs.declared.Promise.{Promise}
 use Rattle.base.specs.Refusals.{Refusal, Taken, taken, refused, refuse_if, refusal, first_fault}
 use Rattle.rules.specs.Verdicts.{Refused, Nothing, TheTable, TheCall, accepted, refused_as}
@@ -21,21 +22,24 @@ use Rattle.rules.specs.Due.{due}
 use Rattle.rules.specs.Session.{count}
 use Rattle.rules.specs.Panel.{share, no_share, none_yet, below, at_ceiling, over, reading_of, panel_row, no_panel, panel_checks, panel}
 use Rattle.base.proofs.Checks.{passed}
-use Rattle.rules.proofs.Counting.{count_nil, count_other, count_append, count_most, count_last_same, count_last_other}
+use Rattle.rules.proofs.Counting.{count_nil, count_other, count_append, count_most}
 use Rattle.panel.specs.Exact.{ExactShare, ExactAtPowers, ExactPanel}
 use Rattle.panel.proofs.ExactShare.{share_exact}
 
--- ---- how often a number stands in one byte more, and in one part more
+-- ---- how often a number stands in a record
 
-module _ (k : ℕ) (wall : List ℕ) (at : ℕ) (inside : at < length wall) where
-  byte_more : count k (take (at + 1) wall) ≡ count k (take at wall ++ (get_or wall at 0 ∷ []))
-  byte_more = ap (λ n. count k (take n wall)) (add-one at) ∙ ap (count k) (take-suc wall at 0 inside)
+-- the library's count of what is equal to a number
+pub count_is : (k : ℕ) (xs : List ℕ) → count_by (λ x. eqb x k) xs ≡ count k xs
+unfolding count
+count_is k [] = refl
+count_is k (x ∷ xs) = go (eqb x k) refl (count_is k xs)
+  where
+    go : (c : Bool) → eqb x k ≡ c → count_by (λ y. eqb y k) xs ≡ count k xs → count_by (λ y. eqb y k) (x ∷ xs) ≡ count k (x ∷ xs)
+    go true q ih = sum_by-cons (λ y. cond (eqb y k) 1 0) x xs ∙ rw (q, count) (omega arith)
+    go false q ih = sum_by-cons (λ y. cond (eqb y k) 1 0) x xs ∙ rw (q, count) (omega arith)
 
-  pub count_more : get_or wall at 0 ≡ k → count k (take (at + 1) wall) ≡ count k (take at wall) + 1
-  count_more e = omega (arith, byte_more, count_last_same k (get_or wall at 0) (take at wall) e)
-
-  pub count_same : (get_or wall at 0 ≡ k → ⊥) → count k (take (at + 1) wall) ≡ count k (take at wall)
-  count_same e = byte_more ∙ count_last_other k (get_or wall at 0) (take at wall) e
+pub count_more : (k : ℕ) (xs : List ℕ) (i : ℕ) → i < length xs → count k (take (i + 1) xs) ≡ count k (take i xs) + cond (eqb (get_or xs i 0) k) 1 0
+count_more k xs i h = omega (arith, count_is k (take (i + 1) xs), sum_by_more (λ x. cond (eqb x k) 1 0) xs i 0 h, count_is k (take i xs))
 
 -- a number above every byte stands nowhere
 pub count_above : (k t : ℕ) (wall : List ℕ) → ((i : ℕ) → get_or wall i 0 < k) → count k (take t wall) ≡ 0
@@ -45,17 +49,9 @@ count_above k t wall all = omega (arith, count_append k (take t wall) (drop t wa
     nowhere [] all = count_nil k
     nowhere (x ∷ xs) all = count_other k x xs (λ e. omega (arith, all 0)) ∙ nowhere xs (λ i. all (suc i))
 
--- the bytes before `at`, and the part from `at` to `stop`
-pub count_part : (k : ℕ) (wall : List ℕ) (at stop : ℕ) {before here : ℕ} → before ≡ count k (take at wall) → here ≡ count k (take (stop - at) (drop at wall)) → at ≤ stop
-    → before + here ≡ count k (take stop wall)
-count_part k wall at stop b e h =
-    let split = ap (count k) (take-add at (stop - at) wall) ∙ count_append k (take at wall) (take (stop - at) (drop at wall)) in
-    let whole : at + (stop - at) ≡ stop = omega arith in
-    omega (arith, b, e, split, ap (λ n. count k (take n wall)) whole)
-
--- no more is counted in a part than it has bytes
-pub count_within : (k : ℕ) (part : List ℕ) {here : ℕ} → here ≡ count k part → here ≤ length part
-count_within k part e = omega (arith, e, count_most k part)
+-- a part counted on the way, and what is left to count
+pub part_more : (k : ℕ) (part rest : List ℕ) {left : List ℕ} → left ≡ part ++ rest → (worked : ℕ) {all : ℕ} → worked + count k left ≡ all → worked + count k part + count k rest ≡ all
+part_more k part rest e worked h = omega (arith, h, ap (count k) e, count_append k part rest)
 
 -- no more ticks are worked than pass
 pub worked_le : (k t : ℕ) (wall : List ℕ) → count k (take t wall) ≤ t
@@ -68,13 +64,17 @@ module _ (worked dueThen : ℕ) (got : Float) where
   unfolding reading_of
   reading_below h = rw (lt-ltb worked dueThen h, reading_of)
 
-  pub reading_at_ceiling : dueThen ≤ worked → worked ≡ dueThen → reading_of worked dueThen got ≡ at_ceiling got
+  pub reading_at_ceiling : worked ≡ dueThen → reading_of worked dueThen got ≡ at_ceiling got
   unfolding reading_of
-  reading_at_ceiling h e = rw (le-ltb worked dueThen h, reading_of) (rw (eq-eqb worked dueThen e))
+  reading_at_ceiling e =
+      let least : dueThen ≤ worked = omega arith in
+      rw (le-ltb worked dueThen least, reading_of) (rw (eq-eqb worked dueThen e))
 
-  pub reading_over : dueThen ≤ worked → (worked ≡ dueThen → ⊥) → reading_of worked dueThen got ≡ over got
+  pub reading_over : dueThen < worked → reading_of worked dueThen got ≡ over got
   unfolding reading_of
-  reading_over h e = rw (le-ltb worked dueThen h, reading_of) (rw (ne_eqb worked dueThen e))
+  reading_over h =
+      let least : dueThen ≤ worked = omega arith in
+      rw (le-ltb worked dueThen least, reading_of) (rw (ne_eqb worked dueThen (λ e. omega arith)))
 
 -- ---- the row
 

@@ -1,108 +1,105 @@
 -- What lanes counted together, as one lane after the other counts on. Assumes nothing.
 use mathlib.Core.Path.{◌≡◌, refl, sym, ap, ◌∙◌}
-use mathlib.Core.List.{List, [], ◌∷◌, ◌++◌}
-use Prim.Native.Nat.{ℕ, zero, suc, ◌+◌, ◌-◌, ◌*◌, ◌≤◌, ◌<◌}
-use native.Mathlib.Nat.{not-suc-le-zero, le_of_suc-le-suc}
-use native.Mathlib.Numerals.{add-one}
+use mathlib.Core.Bool.{Bool, true, false, cond}
+use mathlib.Core.List.{List, []}
+use Prim.Native.Nat.{ℕ, zero, suc, ◌+◌, ◌*◌, ◌≤◌, ◌<◌}
 use native.Mathlib.Omega.{arith}
-use lib.ListN.{length, take, drop, set, get_or, replicate, length-set}
-use lib.Seq.{take-suc, take_all, get_or-set_other}
+use mir.Val.{bool_byte}
+use lib.Dec.{eqb}
+use lib.ListN.{length, take, drop, set, get_or, replicate, length-set, take-append-drop}
+use lib.Seq.{take-add, take_all, get_or-set_other}
+use Rattle.std.specs.List.{sum}
+use Rattle.std.specs.Simd.{first_chunks}
+use Rattle.std.proofs.lemmas.List.{drop-drop}
+use Rattle.std.proofs.lemmas.List.Sums.{sum_by-set}
+use Rattle.std.proofs.lemmas.List.Folds.{sum_by-replicate}
 use Rattle.rules.specs.Session.{count}
-use Rattle.panel.specs.Lanes.{sum, EachBelow, OneMore}
-use Rattle.rules.proofs.Counting.{count_nil}
+use Rattle.panel.specs.Lanes.{EachBelow, OneMore}
+use Rattle.rules.proofs.Counting.{count_nil, count_append}
 use Rattle.rules.proofs.Held.{at_set}
-use Rattle.panel.proofs.Cases.{count_more, count_same, count_part}
+use Rattle.panel.proofs.Cases.{count_more}
 
-sum_append : (xs ys : List ℕ) → sum (xs ++ ys) ≡ sum xs + sum ys
-unfolding sum
-sum_append [] ys = omega arith
-sum_append (x ∷ xs) ys = omega (arith, sum_append xs ys)
+-- a test as a number
+hit_or_not : (b : Bool) → bool_byte b ≡ cond b 1 0
+hit_or_not true = refl
+hit_or_not false = refl
 
-pub sum_none : sum [] ≡ 0
-unfolding sum
-sum_none = refl
-
-pub sum_zeros : (n : ℕ) → sum (replicate n 0) ≡ 0
-unfolding sum
-sum_zeros zero = refl
-sum_zeros (suc n) = omega (arith, sum_zeros n)
-
--- one lane more
-pub sum_more : (xs : List ℕ) (i : ℕ) → i < length xs → sum (take (i + 1) xs) ≡ sum (take i xs) + get_or xs i 0
-unfolding sum
-sum_more xs i h = ap (λ n. sum (take n xs)) (add-one i) ∙ ap sum (take-suc xs i 0 h) ∙ sum_append (take i xs) (get_or xs i 0 ∷ []) ∙ omega arith
-
--- a lane set anew
-sum_set : (xs : List ℕ) (i v : ℕ) → i < length xs → sum (set xs i v) + get_or xs i 0 ≡ sum xs + v
-unfolding sum
-sum_set [] i v h = absurd (not-suc-le-zero h)
-sum_set (x ∷ xs) zero v h = omega arith
-sum_set (x ∷ xs) (suc i) v h = omega (arith, sum_set xs i v (le_of_suc-le-suc h))
+pub one_at_most : (b : Bool) {hit : ℕ} → hit ≡ bool_byte b → hit ≤ 1
+one_at_most true h = omega (arith, h)
+one_at_most false h = omega (arith, h)
 
 -- the first i bytes of the block are counted, each in its lane; the lanes behind them are as they were
 pub record Counted (k : ℕ) (before block : List ℕ) (i : ℕ) (lanes : List ℕ) : Type 0 where
-  pub inside : i ≤ length block
   pub together : sum lanes ≡ sum before + count k (take i block)
   pub each : OneMore before lanes
   pub behind : (j : ℕ) → i ≤ j → get_or lanes j 0 ≡ get_or before j 0
 
 module _ (k : ℕ) (before block : List ℕ) where
   pub none_counted : Counted k before block 0 before
-  none_counted = record { inside = omega arith; together = omega (arith, count_nil k); each = (refl, λ i. omega arith); behind = λ j h. refl }
+  none_counted = record { together = omega (arith, count_nil k); each = (refl, λ i. omega arith); behind = λ j h. refl }
 
   pub all_counted : {i : ℕ} {lanes : List ℕ} → Counted k before block i lanes → length block ≤ i → sum lanes ≡ sum before + count k block
   all_counted {i} {lanes} d h = d.together ∙ ap (λ xs. sum before + count k xs) (take_all i block h)
 
-  module _ {i : ℕ} {lanes : List ℕ} (d : Counted k before block i lanes) (room : i < length before) (more : i < length block) where
-    -- a lane that counts on, by `hit`
-    count_on : (v hit : ℕ) → hit ≤ 1 → v ≡ get_or lanes i 0 + hit → count k (take (i + 1) block) ≡ count k (take i block) + hit → Counted k before block (i + 1) (set lanes i v)
-    count_on v hit one is counted =
-        record {
-          inside = omega arith;
-          together = omega (arith, sum_set lanes i v here, d.together, is, counted);
-          each = (length-set lanes i v ∙ d.each.0, λ j. at_set lanes i j v 0 (λ x. x ≤ get_or before j 0 + 1) here (mine j) (λ q. d.each.1 j));
-          behind = λ j h. get_or-set_other lanes i j v 0 (λ q. omega arith) ∙ d.behind j (omega arith);
-        }
-      where
-        here : i < length lanes
-        here = omega (arith, d.each.0)
+  -- the next lane counts on, by 1 where the booth stands there
+  pub lane_counts : {i : ℕ} {lanes : List ℕ} → Counted k before block i lanes → i < length before → i < length block → (v hit : ℕ) → v ≡ get_or lanes i 0 + hit
+      → hit ≡ bool_byte (eqb (get_or block i 0) k) → Counted k before block (i + 1) (set lanes i v)
+  lane_counts {i} {lanes} d room more v hit is counts =
+      record {
+        together = omega (arith, sum_by-set (λ x. x) lanes i v 0 here, d.together, is, hits, count_more k block i more);
+        each = (length-set lanes i v ∙ d.each.0, λ j. at_set lanes i j v 0 (λ x. x ≤ get_or before j 0 + 1) here (mine j) (λ q. d.each.1 j));
+        behind = λ j h. get_or-set_other lanes i j v 0 (λ q. omega arith) ∙ d.behind j (omega arith);
+      }
+    where
+      here : i < length lanes
+      here = omega (arith, d.each.0)
 
-        mine : (j : ℕ) → j ≡ i → v ≤ get_or before j 0 + 1
-        mine j q = omega (arith, is, d.behind i (omega arith), ap (λ n. get_or before n 0) q)
+      hits : hit ≡ cond (eqb (get_or block i 0) k) 1 0
+      hits = counts ∙ hit_or_not (eqb (get_or block i 0) k)
 
-    pub lane_more : {v : ℕ} → v ≡ get_or lanes i 0 + 1 → get_or block i 0 ≡ k → Counted k before block (i + 1) (set lanes i v)
-    lane_more {v} is e = count_on v 1 (omega arith) is (count_more k block i more e)
+      mine : (j : ℕ) → j ≡ i → v ≤ get_or before j 0 + 1
+      mine j q = omega (arith, is, one_at_most _ counts, d.behind i (omega arith), ap (λ n. get_or before n 0) q)
 
-    pub lane_same : {v : ℕ} → v ≡ get_or lanes i 0 → (get_or block i 0 ≡ k → ⊥) → Counted k before block (i + 1) (set lanes i v)
-    lane_same {v} is e = count_on v 0 (omega arith) (is ∙ omega arith) (count_same k block i more e ∙ omega arith)
-
--- the part's bytes before `at` are counted, no more of them in a lane than there are blocks
-pub record Counting (k : ℕ) (part : List ℕ) (at : ℕ) (lanes : List ℕ) : Type 0 where
+-- the part's first n blocks are counted, no more of them in a lane than there are
+pub record Counting (k : ℕ) (part : List ℕ) (n : ℕ) (lanes : List ℕ) : Type 0 where
   pub whole : length lanes ≡ 128
-  pub each : (i : ℕ) → get_or lanes i 0 * 128 ≤ at
-  pub together : sum lanes ≡ count k (take at part)
+  pub each : (i : ℕ) → get_or lanes i 0 ≤ n
+  pub together : sum lanes ≡ count k (take (n * 128) part)
+
+-- block i of a part that is cut into blocks
+block_at : (m i : ℕ) (part : List ℕ) → i < m → get_or (first_chunks 128 m part) i [] ≡ take 128 (drop (i * 128) part)
+block_at zero i part h = absurd (omega (arith, h))
+block_at (suc m) zero part h = refl
+block_at (suc m) (suc i) part h = block_at m i (drop 128 part) (omega arith) ∙ ap (take 128) (drop-drop (i * 128) 128 part ∙ ap (λ n. drop n part) (omega arith))
+
+pub block_is : (m : ℕ) (part : List ℕ) {blocks : List (List ℕ)} → blocks ≡ first_chunks 128 m part → (i : ℕ) → i < m → get_or blocks i [] ≡ take 128 (drop (i * 128) part)
+block_is m part e i h = ap (λ bs. get_or bs i []) e ∙ block_at m i part h
 
 module _ (k : ℕ) (part : List ℕ) where
   pub none_yet : Counting k part 0 (replicate 128 0)
-  none_yet = record { whole = refl; each = λ i. omega (arith, zero_at 128 i); together = sum_zeros 128 ∙ sym (count_nil k) }
+  none_yet = record { whole = refl; each = λ i. omega (arith, zero_at 128 i); together = sum_by-replicate (λ x. x) 128 0 ∙ sym (count_nil k) }
     where
       zero_at : (n i : ℕ) → ◌≡◌ {A = ℕ} (get_or (replicate n 0) i 0) 0
       zero_at zero i = refl
       zero_at (suc n) zero = refl
       zero_at (suc n) (suc i) = zero_at n i
 
-  module _ {at : ℕ} {lanes : List ℕ} (d : Counting k part at lanes) where
+  module _ {n : ℕ} {lanes : List ℕ} (d : Counting k part n lanes) where
     -- 255 blocks fill a lane
-    pub lanes_below : at < 32640 → EachBelow 255 lanes
+    pub lanes_below : n < 255 → EachBelow 255 lanes
     lanes_below h = (d.whole, λ i. omega (arith, d.each i))
 
-    module _ (after : List ℕ) (grown : OneMore lanes after) where
-      pub still_below : at < 32640 → EachBelow 256 after
-      still_below h = (grown.0 ∙ d.whole, λ i. omega (arith, grown.1 i, d.each i))
+    pub next_block : (block : List ℕ) → block ≡ take 128 (drop (n * 128) part) → (after : List ℕ) → OneMore lanes after → sum after ≡ sum lanes + count k block
+        → Counting k part (n + 1) after
+    next_block block is after grown added =
+        let split = ap (count k) (take-add (n * 128) 128 part) ∙ count_append k (take (n * 128) part) (take 128 (drop (n * 128) part)) in
+        let end : n * 128 + 128 ≡ (n + 1) * 128 = omega arith in
+        record {
+          whole = grown.0 ∙ d.whole;
+          each = λ i. omega (arith, grown.1 i, d.each i);
+          together = omega (arith, added, ap (count k) is, d.together, split, ap (λ m. count k (take m part)) end);
+        }
 
-      module _ (stop : ℕ) (h : at ≤ stop) (added : sum after ≡ sum lanes + count k (take (stop - at) (drop at part))) where
-        pub counted_to : sum after ≡ count k (take stop part)
-        counted_to = added ∙ count_part k part at stop d.together refl h
-
-        pub next_block : at + 128 ≤ stop → Counting k part stop after
-        next_block b = record { whole = grown.0 ∙ d.whole; each = λ i. omega (arith, grown.1 i, d.each i); together = counted_to }
+    pub part_counted : (rest : List ℕ) → rest ≡ drop (n * 128) part → (after : List ℕ) → sum after ≡ sum lanes + count k rest → sum after ≡ count k part
+    part_counted rest is after added =
+        omega (arith, added, ap (count k) is, d.together, count_append k (take (n * 128) part) (drop (n * 128) part), ap (count k) (take-append-drop (n * 128) part))

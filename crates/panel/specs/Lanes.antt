@@ -1,9 +1,5 @@
--- Lanes that count side by side: what they counted together, and how far each may still count.
-use Rattle.std.specs.Prelude.{◌≡◌, List, [], ◌∷◌, ℕ, ◌+◌, ◌≤◌, ◌<◌, length, get_or}
-
-unfoldable pub sum : List ℕ → ℕ
-sum [] = 0
-sum (x ∷ xs) = x + sum xs
+-- Lanes that count side by side: how far each may still count.
+use Rattle.std.specs.Prelude.{◌≡◌, List, ℕ, ◌+◌, ◌≤◌, ◌<◌, length, get_or}
 
 -- all 128 lanes, each below n
 abbrev pub EachBelow : ℕ → List ℕ → Type 0

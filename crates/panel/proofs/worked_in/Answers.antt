@@ -1,36 +1,33 @@
--- `panel::worked_in` meets its contract. The loop's invariant: the blocks passed are counted, at most once in each lane. The measure is the bytes
--- that are left. Assumes nothing.
-use mathlib.Core.Path.{ap, ◌∙◌}
-use native.Mathlib.Omega.{arith}
-use borrow.Author.Rules.{rules}
-use lib.ListN.{length}
-use lib.Seq.{take_all}
-use Rattle.rules.specs.Session.{count}
-use Rattle.panel.proofs.Lanes.{none_yet, lanes_below, still_below, counted_to, next_block}
+-- `panel::worked_in` meets its contract. The loop's invariant: the blocks passed are counted, at most once in each lane. Assumes nothing.
+use Rattle.std.proofs.Common.{◌≡◌, ◌<◌, ◌*◌, ◌/◌, length, drop, ap, ◌∙◌, arith, length-take}
+use Rattle.panel.proofs.Lanes.{none_yet, lanes_below, next_block, part_counted, block_is}
 use Rattle.panel.proofs.worked_in.Goals as goal
 
-pub loop-start-init : goal.loop-start-init
-loop-start-init c = (omega arith, none_yet c.args.booth c.args.part.now)
+pub loop-block-init : goal.loop-block-init
+loop-block-init c = none_yet c.args.booth c.args.part.now
 
 pub count_block-requires : goal.count_block-requires
-count_block-requires c = (search rules, lanes_below _ _ c.loop-start.invariant.1 (omega (arith, c.requires)))
+count_block-requires c =
+    let n = c.loop-block.block-index in
+    let inside : n < length c.args.part.now / 128 = omega (arith, c.as_chunks.ensures.front_len) in
+    let block = block_is _ c.args.part.now c.as_chunks.ensures.front n inside in (
+      omega (arith, ap length block, length-take 128 (drop (n * 128) c.args.part.now)),
+      lanes_below _ _ c.loop-block.invariant (omega (arith, c.requires)),
+    )
 
-pub loop-start-preserved : goal.loop-start-preserved
-loop-start-preserved c =
+pub loop-block-preserved : goal.loop-block-preserved
+loop-block-preserved c =
     let q = c.count_block.ensures in
-    (omega arith, next_block _ _ c.loop-start.invariant.1 c.count_block.new.lanes q.each _ (omega arith) q.sum (omega arith))
+    let inside : c.loop-block.block-index < length c.args.part.now / 128 = omega (arith, c.as_chunks.ensures.front_len) in
+    next_block _ _ c.loop-block.invariant _ (block_is _ c.args.part.now c.as_chunks.ensures.front c.loop-block.block-index inside) c.count_block.new.lanes q.each q.sum
 
 pub count_block-requires-2 : goal.count_block-requires-2
-count_block-requires-2 c = (search rules, lanes_below _ _ c.loop-start.invariant.1 (omega (arith, c.requires)))
-
-pub add_up-requires : goal.add_up-requires
-add_up-requires c =
-    still_below _ _ c.loop-start.invariant.1 c.count_block-2.new.lanes c.count_block-2.ensures.each (omega (arith, c.requires))
+count_block-requires-2 c =
+    (omega (arith, c.as_chunks.ensures.back_len), lanes_below _ _ c.loop-block.invariant (omega (arith, c.requires, c.as_chunks.ensures.front_len)))
 
 pub returns : goal.returns
 returns c =
-    let q = c.count_block-2.ensures in
     let part = c.args.part.now in
-    c.add_up.ensures
-    ∙ counted_to _ _ c.loop-start.invariant.1 c.count_block-2.new.lanes q.each (length part) (omega arith) q.sum
-    ∙ ap (count _) (take_all (length part) part (omega arith))
+    let passed : length part / 128 * 128 ≡ c.loop-block.block-index * 128 = omega (arith, c.as_chunks.ensures.front_len) in
+    let rest = c.as_chunks.ensures.back ∙ ap (λ at. drop at part) passed in
+    c.add_up.ensures ∙ part_counted _ _ c.loop-block.invariant _ rest c.count_block-2.new.lanes c.count_block-2.ensures.sum

@@ -1,33 +1,47 @@
--- `panel::worked_ticks` meets its contract. The loop's invariant: what is counted is how often the booth stands in the bytes passed.
--- The measure is the bytes that are left. Assumes nothing.
-use mathlib.Core.Path.{sym}
-use Prim.Native.Nat.{◌+◌}
-use native.Mathlib.Omega.{arith}
+-- `panel::worked_ticks` meets its contract. The loop's invariant: what is counted, with what the parts left hold, is how often the booth stands in
+-- the first `t` bytes. Assumes nothing.
+use Rattle.std.proofs.Common.{◌≡◌, ◌<◌, take, rules, sym, ap, ◌∙◌, arith}
+use Rattle.std.specs.Slice.Iter.{chunks_rest}
+use Rattle.std.proofs.lemmas.List.{nil_from_length}
+use Rattle.rules.specs.Session.{count}
 use Rattle.rules.proofs.Counting.{count_nil}
-use Rattle.panel.proofs.Cases.{count_part, count_within, count_above}
+use Rattle.panel.proofs.Cases.{count_above, part_more, worked_le}
 use Rattle.panel.proofs.worked_ticks.Goals as goal
 
-pub returns-then-booth-gt255 : goal.returns-then-booth-gt255
-returns-then-booth-gt255 c =
+pub returns-in_default : goal.returns-in_default
+returns-in_default c =
     let a = c.args in
-    sym (count_above a.booth a.t a.wall.now (λ i. omega (arith, c.shared_slice_known-1.given i)))
+    let large : a.booth < 256 → ⊥ = c.in_default.ensures in
+    sym (count_above a.booth a.t a.wall.now (λ i. omega (arith, c.type_inv.wall i, large)))
 
-pub loop-at-init : goal.loop-at-init
-loop-at-init c = (omega arith, omega arith, sym (count_nil c.args.booth))
+pub loop-part-init : goal.loop-part-init
+loop-part-init c = record { can_next = search rules; finite = tt; size = search rules; together = search rules }
+
+pub worked_in-worked-requires : goal.worked_in-worked-requires
+worked_in-worked-requires c = omega (arith, c.in-Some.ensures.steps.1.1, c.loop-part.invariant.size)
 
 pub overflow_add-worked : goal.overflow_add-worked
-overflow_add-worked c = omega (arith, count_within _ _ c.worked_in-worked.ensures)
+overflow_add-worked c =
+    let k = c.in-Ok.number in
+    let more = part_more k c.in-Some.part.now (chunks_rest c.next.new.self) c.in-Some.ensures.steps.1.0 c.loop-part.worked c.loop-part.invariant.together in
+    omega (arith, more, c.worked_in-worked.ensures, worked_le k c.args.t c.args.wall.now)
 
-pub loop-at-preserved : goal.loop-at-preserved
-loop-at-preserved c =
-    let at = c.loop-at.at in
-    let here = c.worked_in-worked.ensures in
-    (omega arith, omega (arith, count_within _ _ here), count_part _ _ at (at + 32512) c.loop-at.invariant.2 here (omega arith))
-
-pub overflow_add-result : goal.overflow_add-result
-overflow_add-result c = omega (arith, count_within _ _ c.worked_in.ensures)
+pub loop-part-preserved : goal.loop-part-preserved
+loop-part-preserved c =
+    let k = c.in-Ok.number in
+    let held = c.loop-part.invariant in
+    let steps = c.in-Some.ensures.steps in
+    let more = part_more k c.in-Some.part.now (chunks_rest c.next.new.self) steps.1.0 c.loop-part.worked held.together in
+    record {
+      can_next = search rules;
+      finite = tt;
+      size = steps.0 ∙ held.size;
+      together = omega (arith, c.worked_in-worked.ensures, more);
+    }
 
 pub returns : goal.returns
 returns c =
-    let t = c.args.t in
-    count_part _ _ _ t c.loop-at.invariant.2 c.worked_in.ensures (omega arith)
+    let bytes = take c.args.t c.args.wall.now in
+    let none = nil_from_length _ c.in-None.ensures.steps.1.0 in
+    let same : c.in-Ok.number ≡ c.args.booth = c.in-Ok.ensures.1 in
+    omega (arith, c.loop-part.invariant.together, ap (count c.in-Ok.number) none, count_nil c.in-Ok.number, ap (λ k. count k bytes) same)
