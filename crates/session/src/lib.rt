@@ -29,11 +29,8 @@ fn clocks_of(booths: [Booth; BOOTHS_ALLOWED], n: usize) -> [u32; BOOTHS_ALLOWED]
     ensures { Clocks n booths result }
 {
     let mut clocks = [0u32; BOOTHS_ALLOWED];
-    let mut i = 0;
-    while i < n {
-        let b = booths[i];
-        clocks[i] = b.clock.0;
-        i += 1;
+    for i in 0..n {
+        clocks[i] = booths[i].clock.0;
     }
     clocks
 }
