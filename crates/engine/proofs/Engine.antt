@@ -4,7 +4,7 @@ use mathlib.Core.Bool.{true, false}
 use mathlib.Core.List.{List, ◌++◌, map}
 use Prim.Native.Nat.{ℕ, zero, suc, ◌+◌, ◌-◌, ◌*◌, ◌≤◌, ◌<◌}
 use native.Mathlib.Decide.{ℕ_discrete, dec_le}
-use native.Mathlib.Nat.{not-suc-le-zero, add-zero, zero-add, mul-le-mul_right}
+use native.Mathlib.Nat.{not-suc-le-zero, zero-add, mul-le-mul_right}
 use native.Mathlib.Numerals.{add-one}
 use native.Mathlib.Omega.{arith}
 use lib.ListN.{length-append, length, get_or, take, drop, set, replicate, length-set, length-take, length-drop, length-map, take-append-drop}
@@ -32,7 +32,7 @@ use Rattle.booth.proofs.Working.{asleep_until}
 use Rattle.booth.proofs.OneTurn.{played_clock, goes_on_asks, goes_on_after, goes_on_shown, goes_on_works}
 use Rattle.arrivals.specs.Places.{entries_of}
 use Rattle.engine.specs.declared.Course.{Course as HeldCourse}
-use Rattle.engine.specs.Running.{nowhere, Same, Alike, Set, Running, Ready, Going, Midway, Ending, Ended, OpenedTo}
+use Rattle.engine.specs.Running.{nowhere, Same, Alike, Running, Ready, Going, Midway, Ending, Ended, OpenedTo}
 
 -- ---- what a held booth shows
 
@@ -396,7 +396,7 @@ module _ {ls : List Line} {n H : ℕ} {bs wall₀ own₀ : List ℕ} {t i : ℕ}
   pub worked_fits : (k : ℕ) → k < n → get_or worked k 0 + 1 < 4294967296
   worked_fits k l =
       let small : get_or worked k 0 ≤ t =
-          omega (arith, r.course.worked_is k (omega (arith, g.set.count)), count_most k (settled_at t ls (entries_of bs)).wall, length_wall ls (entries_of bs) t) in
+      omega (arith, r.course.worked_is k (omega (arith, g.set.count)), count_most k (settled_at t ls (entries_of bs)).wall, length_wall ls (entries_of bs) t) in
       omega (arith, g.early, g.ticks)
 
   module _ (e : i < n) (less : t < H) (w : ℕ) (q : w ≡ H) (a : Asked) (part : List ℕ) (after : AfterAsk bs t (get_or hs i nowhere) a)

@@ -56,8 +56,8 @@ impl Course {
         ensures { SleepTo self.now.wakes n result }
     {
         let mut soonest = end;
-        for i in 0..n {
-            soonest = soonest.min(self.wakes[i]);
+        for wake in &self.wakes[..n] {
+            soonest = soonest.min(*wake);
         }
         soonest
     }

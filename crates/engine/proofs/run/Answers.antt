@@ -23,16 +23,16 @@ loop-t-preserved c =
     let l = c.loop-t in
     let j = c.if-soonest-t in
     let in_vain : (e : Ready c.args.n c.args.h c.args.start c.args.log.now c.args.wall.now c.args.own.now)
-        → Going e.lines c.args.n c.args.h c.args.log.now c.args.wall.now c.args.own.now l.t c.args.n j.course.booths j.course.wakes l.worked (l.t - l.sung) l.wall j.own =
-        λ e. elim j.branch [
-          then-soonest-t+in_default w ↦ rw (w.course-is, w.own-is) (w.in_default.ensures (midway l.course (l.invariant.2 e)))
-        | else-soonest-t w ↦ rw (w.course-is, w.own-is) (going_asleep (l.invariant.2 e) (λ k m. omega (arith, w.if-soonest-t.false, l.invariant.1 (omega (arith, w.if-soonest-t.false)) k m)) c.args.n (omega arith))
-        ] in
+    → Going e.lines c.args.n c.args.h c.args.log.now c.args.wall.now c.args.own.now l.t c.args.n j.course.booths j.course.wakes l.worked (l.t - l.sung) l.wall j.own =
+    λ e. elim j.branch [
+      | then-soonest-t+in_default w ↦ rw (w.course-is, w.own-is) (w.in_default.ensures (midway l.course (l.invariant.2 e)))
+      | else-soonest-t w ↦ rw (w.course-is, w.own-is) (going_asleep (l.invariant.2 e) (λ k m. omega (arith, w.if-soonest-t.false, l.invariant.1 (omega (arith, w.if-soonest-t.false)) k m)) c.args.n (omega arith))
+    ] in
     let sleep : l.t + 1 < j.soonest → SleepTo j.course.wakes c.args.n j.soonest =
-        λ ahead. elim j.branch [
-          then-soonest-t+in_default w ↦ rw (w.course-is, w.soonest-is) w.sleep_to-soonest.ensures
-        | else-soonest-t w ↦ rw (w.course-is, w.soonest-is) (l.invariant.1 (omega (arith, w.if-soonest-t.false)))
-        ] in
+    λ ahead. elim j.branch [
+      | then-soonest-t+in_default w ↦ rw (w.course-is, w.soonest-is) w.sleep_to-soonest.ensures
+      | else-soonest-t w ↦ rw (w.course-is, w.soonest-is) (l.invariant.1 (omega (arith, w.if-soonest-t.false)))
+    ] in
     (omega (arith, l.invariant.0), sleep, λ e. going_idle (going_nobody (in_vain e) refl c.loop-t-test.true) (omega (arith, l.invariant.0)))
 
 pub returns : goal.returns

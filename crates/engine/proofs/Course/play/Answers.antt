@@ -11,6 +11,6 @@ pub loop-i-preserved : goal.loop-i-preserved
 loop-i-preserved c = λ e.
     let l = c.loop-i in
     elim c.else-self-i.branch [
-      else-self-i-via-then-self-i+else-turn w ↦ rw (w.self-is, w.own-is) (w.turn.ensures.rested w.if-turn.false (midway l.self (l.invariant e)))
-    | else-self-i-via-else-self-i w ↦ rw (w.self-is, w.own-is) (going_sleeps (l.invariant e) c.loop-i-test.true (omega (arith, w.if-self-i.false)))
+      | else-self-i-via-then-self-i+else-turn w ↦ rw (w.self-is, w.own-is) (w.turn.ensures.rested w.if-turn.false (midway l.self (l.invariant e)))
+      | else-self-i-via-else-self-i w ↦ rw (w.self-is, w.own-is) (going_sleeps (l.invariant e) c.loop-i-test.true (omega (arith, w.if-self-i.false)))
     ]

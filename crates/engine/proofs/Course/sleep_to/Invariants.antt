@@ -3,5 +3,5 @@ use Prim.Native.Nat.{ℕ, ◌≤◌, ◌<◌}
 use lib.ListN.{get_or}
 use Rattle.engine.proofs.Course.sleep_to.Given as goal
 
-abbrev pub invariant-loop-i : goal.invariant-loop-i
-invariant-loop-i l = (j : ℕ) → j < l.i → l.soonest ≤ get_or l.self.wakes j 0
+abbrev pub invariant-loop-wake : goal.invariant-loop-wake
+invariant-loop-wake l = (j : ℕ) → j < l.wake-index → l.soonest ≤ get_or l.self.wakes j 0

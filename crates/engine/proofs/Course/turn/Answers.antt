@@ -1,5 +1,5 @@
 -- `engine::Course::turn` meets its contract: the booth goes on, or is asked. Assumes nothing.
-use mathlib.Core.Path.{◌≡◌, sym, ◌∙◌}
+use mathlib.Core.Path.{sym, ◌∙◌}
 use Prim.Native.Nat.{◌+◌, ◌*◌, ◌-◌}
 use native.Mathlib.Omega.{arith}
 use lib.ListN.{get_or, take, drop}
