@@ -15,29 +15,14 @@ pub struct Stage {
     pub idle: u32,
 }
 
-impl Stage {
-    fn after(booths: [Booth; BOOTHS_ALLOWED], worked: [u32; BOOTHS_ALLOWED], idle: u32) -> Self
-        ensures { result ≡ record { booths = booths; worked = worked; idle = idle } }
-    {
-        Stage {
-            booths,
-            worked,
-            idle,
-        }
-    }
-}
-
 // Every booth of the table before wall tick 0.
 pub fn open_all(table: Table, log: &[u8]) -> [Booth; BOOTHS_ALLOWED]
     requires { ToOpen table log.now }
     ensures { Opened table log.now result }
 {
-    let lines = table.lines;
-    let n = table.booths;
     let mut booths = [Booth::absent(); BOOTHS_ALLOWED];
-    for j in 0..n {
-        let line = lines[j];
-        booths[j] = Booth::open(j, line, log);
+    for j in 0..table.booths {
+        booths[j] = Booth::open(j, table.lines[j], log);
     }
     booths
 }
@@ -72,15 +57,13 @@ impl Course {
         let part = &mut own[a..a + h];
         let tick = WallTick(t as u32);
         if self.booths[i].goes_on(tick) {
-            let k = self.booths[i].first;
-            let played = self.booths[i].play_on(part, k);
+            let played = self.booths[i].play_on(part, self.booths[i].first);
             self.booths[i] = played;
             self.wakes[i] = played.opens.from.0 as usize;
             return true;
         }
         let asked = self.booths[i].ask(log, part, tick);
-        let booth = asked.booth;
-        self.booths[i] = booth;
+        self.booths[i] = asked.booth;
         self.wakes[i] = asked.wakes.0 as usize;
         asked.worked
     }
@@ -131,7 +114,11 @@ pub fn run(
         wall[t] = NOBODY;
     }
     let idle = (h - sung) as u32;
-    Stage::after(course.booths, worked, idle)
+    Stage {
+        booths: course.booths,
+        worked,
+        idle,
+    }
 }
 
 // After the last wall tick all booths settle at H.
@@ -149,8 +136,7 @@ pub fn close(
     for i in 0..n {
         let a = i * h;
         let row = &mut own[a..a + h];
-        let settled = booths[i].settle(log, row, WallTick(h as u32));
-        booths[i] = settled;
+        booths[i] = booths[i].settle(log, row, WallTick(h as u32));
     }
     booths
 }

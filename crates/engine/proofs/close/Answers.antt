@@ -6,8 +6,8 @@ use Rattle.engine.specs.Running.{Ending}
 use Rattle.engine.proofs.Engine.{last_asks, last_step, last_length}
 use Rattle.engine.proofs.close.Goals as goal
 
-pub settle-settled-requires : goal.settle-settled-requires
-settle-settled-requires c =
+pub settle-requires : goal.settle-requires
+settle-requires c =
     let l = c.loop-i in
     last_asks c.args.n c.args.h c.args.played c.args.log.now c.args.own.now l.i l.booths l.own c.requires (l.invariant.1 c.requires)
     c.loop-i-test.true l.invariant.0 (l.i * c.args.h + c.args.h - l.i * c.args.h) (omega arith)
@@ -15,7 +15,7 @@ settle-settled-requires c =
 pub loop-i-preserved : goal.loop-i-preserved
 loop-i-preserved c =
     let l = c.loop-i in
-    let s = c.settle-settled in
+    let s = c.settle in
     let w = l.i * c.args.h + c.args.h - l.i * c.args.h in (
       last_length c.args.n c.args.h c.args.played c.args.log.now c.args.own.now l.i l.booths l.own c.requires (l.invariant.1 c.requires)
           c.loop-i-test.true l.invariant.0 w (omega arith) s.new.row s.auto.row,

@@ -44,6 +44,5 @@ returns c = λ e.
       asked = 0;
       wakes = l.course.wakes;
       running =
-          rw c.after.ensures
           (subst (λ t. Running e.lines c.args.h c.args.log.now c.args.wall.now c.args.own.now t 0 l.course.booths l.course.wakes l.worked (t - l.sung) l.wall l.own) done g.running);
     }
