@@ -4,7 +4,7 @@ use mathlib.Core.Bool.{true, false}
 use mathlib.Core.List.{List, ◌++◌, map}
 use Prim.Native.Nat.{ℕ, zero, suc, ◌+◌, ◌-◌, ◌*◌, ◌≤◌, ◌<◌}
 use native.Mathlib.Decide.{ℕ_discrete, dec_le}
-use native.Mathlib.Nat.{not-suc-le-zero, zero-add, mul-le-mul_right}
+use native.Mathlib.Nat.{zero-add, mul-le-mul_right}
 use native.Mathlib.Numerals.{add-one}
 use native.Mathlib.Omega.{arith}
 use lib.ListN.{length-append, length, get_or, take, drop, set, replicate, length-set, length-take, length-drop, length-map, take-append-drop}
@@ -32,7 +32,7 @@ use Rattle.booth.proofs.Working.{asleep_until}
 use Rattle.booth.proofs.OneTurn.{played_clock, goes_on_asks, goes_on_after, goes_on_shown, goes_on_works}
 use Rattle.arrivals.specs.Places.{entries_of}
 use Rattle.engine.specs.declared.Course.{Course as HeldCourse}
-use Rattle.engine.specs.Running.{nowhere, Same, Alike, Running, Ready, Going, Midway, Ending, Ended, OpenedTo}
+use Rattle.engine.specs.Running.{nowhere, Same, Alike, Running, Going, Midway, Ending, Ended, OpenedTo}
 
 -- ---- what a held booth shows
 
@@ -293,25 +293,7 @@ worked_are worked wall n few eight counted others =
         ∙ sym (worked_at 0 n wall j (omega arith))
         ∙ sym (get_or_padded 8 0 (worked_from 0 n wall) j 0 (omega (arith, length_worked 0 n wall)))
 
--- ---- what the loop over wall ticks keeps
-
--- how it begins
-pub going_first : {n H : ℕ} {start : List HeldBooth} {bs wall own : List ℕ} (e : Ready n H start bs wall own)
-    → Going e.lines n H bs wall own 0 0 start (replicate 8 0) (replicate 8 0) 0 wall own
-going_first e =
-    record {
-      early = omega arith;
-      within = omega arith;
-      few = e.set.few;
-      ticks = e.set.ticks;
-      wall_room = e.wall_room;
-      own_room = e.set.room;
-      wall_length = refl;
-      own_length = refl;
-      set = e.set;
-      running = e.running;
-      idle_small = omega arith;
-    }
+-- ---- the steps of a session on its way
 
 -- booth i's part lies inside the own record
 pub row_inside : (i n H : ℕ) → i < n → i * H + H ≤ n * H
@@ -561,16 +543,6 @@ module _ (n H : ℕ) (played : List HeldBooth) (bs own₁ : List ℕ) (i : ℕ) 
       ∙ same
 
 -- ---- the booths opened one after the other, and their clocks noted
-
-pub none_open : (lines : List HeldLine) (bs : List ℕ) (hs : List HeldBooth) → length hs ≡ 8 → OpenedTo 0 lines bs hs
-none_open lines bs hs eight =
-    record {
-      size = eight;
-      fit = λ k l. absurd (not-suc-le-zero l);
-      number = λ k l. absurd (not-suc-le-zero l);
-      promise = λ k l. absurd (not-suc-le-zero l);
-      fresh = λ k l. absurd (not-suc-le-zero l);
-    }
 
 waiting_all : (bs : List ℕ) (k : ℕ) → waiting_at bs k 9 ≡ own_entries k (entries_of bs)
 unfolding waiting_at entries_of

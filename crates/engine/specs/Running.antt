@@ -122,7 +122,7 @@ AskedTo n H bs t i own c k own' c' = (e : Midway n H bs t i own c) → Going e.l
 abbrev pub Worked : ℕ → ℕ → List ℕ → ℕ → ℕ → List ℕ → HeldCourse → ℕ → List ℕ → HeldCourse → Type 0
 Worked n H bs t i own c k own' c' =
     (e : Midway n H bs t i own c)
-    → Going e.lines n H bs e.wall₀ e.own₀ (t + 1) 0 c'.booths c'.wakes (Rattle.std.specs.Prelude.set e.worked k (get_or e.worked k 0 + 1)) e.idle (Rattle.std.specs.Prelude.set e.wall t k) own'
+    → Going e.lines n H bs e.wall₀ e.own₀ (t + 1) 0 c'.booths c'.wakes (set e.worked k (get_or e.worked k 0 + 1)) e.idle (set e.wall t k) own'
 
 -- all H wall ticks are played
 pub record Through (ls : List Line) (H : ℕ) (bs wall₀ own₀ : List ℕ) (s : Stage) (wall own : List ℕ) : Type 0 where

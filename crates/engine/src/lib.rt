@@ -28,12 +28,14 @@ pub fn open_all(table: Table, log: &[u8]) -> [Booth; BOOTHS_ALLOWED]
 }
 
 // The booths on their way through the wall ticks, and for each the wall tick before which it cannot work.
+// Two arrays and not one of pairs: the booths go on alone to `Stage` and `close`, and the rules' course speaks of two lists.
 #[derive(Clone, Copy)]
 struct Course {
     booths: [Booth; BOOTHS_ALLOWED],
     wakes: [usize; BOOTHS_ALLOWED],
 }
 
+// `n`, `log` and `h` stay parameters: in a struct that lends the log each clause names them through the struct, and is longer.
 impl Course {
     // The wall tick before which all booths sleep, `end` at the latest.
     fn sleep_to(&self, n: usize, end: usize) -> usize
