@@ -44,7 +44,7 @@ fn play_all(table: Table, log: &[u8], wall: &mut [u8], own: &mut [u8], h: usize)
 {
     let n = table.booths;
     let start = engine::open_all(table, log);
-    let stage = engine::run(start, n, log, wall, &mut own[..], h);
+    let stage = engine::run(start, n, log, wall, own, h);
     let played = stage.booths;
     let booths = engine::close(played, n, log, own, h);
     let clocks = clocks_of(booths, n);
