@@ -4,7 +4,7 @@ use mathlib.Core.Bool.{true, false}
 use mathlib.Core.List.{List, ◌++◌, map}
 use Prim.Native.Nat.{ℕ, zero, suc, ◌+◌, ◌-◌, ◌*◌, ◌≤◌, ◌<◌}
 use native.Mathlib.Decide.{ℕ_discrete, dec_le}
-use native.Mathlib.Nat.{not-suc-le-zero, add-zero, zero-add, mul-le-mul_right}
+use native.Mathlib.Nat.{zero-add, mul-le-mul_right}
 use native.Mathlib.Numerals.{add-one}
 use native.Mathlib.Omega.{arith}
 use lib.ListN.{length-append, length, get_or, take, drop, set, replicate, length-set, length-take, length-drop, length-map, take-append-drop}
@@ -31,7 +31,8 @@ use Rattle.booth.specs.BoothHeld.{owed, AfterSettle, AfterAsk, goes_on, played_o
 use Rattle.booth.proofs.Working.{asleep_until}
 use Rattle.booth.proofs.OneTurn.{played_clock, goes_on_asks, goes_on_after, goes_on_shown, goes_on_works}
 use Rattle.arrivals.specs.Places.{entries_of}
-use Rattle.engine.specs.Running.{nowhere, Same, Alike, Set, Running, Ready, NextAwake, Ending, Ended, OpenedTo}
+use Rattle.engine.specs.declared.Course.{Course as HeldCourse}
+use Rattle.engine.specs.Running.{nowhere, Same, Alike, Running, Going, Midway, Ending, Ended, OpenedTo}
 
 -- ---- what a held booth shows
 
@@ -292,38 +293,7 @@ worked_are worked wall n few eight counted others =
         ∙ sym (worked_at 0 n wall j (omega arith))
         ∙ sym (get_or_padded 8 0 (worked_from 0 n wall) j 0 (omega (arith, length_worked 0 n wall)))
 
--- ---- what the loop over wall ticks keeps
-
-pub record Going (ls : List Line) (n H : ℕ) (bs wall₀ own₀ : List ℕ) (t i : ℕ) (hs : List HeldBooth) (wakes worked : List ℕ) (idle : ℕ) (wall own : List ℕ) : Type 0 where
-  pub early : t ≤ H
-  pub within : i ≤ n
-  pub few : n ≤ 8
-  pub ticks : H ≤ 1000000
-  pub wall_room : H ≤ length wall
-  pub own_room : n * H ≤ length own
-  pub wall_length : length wall ≡ length wall₀
-  pub own_length : length own ≡ length own₀
-  pub set : Set ls n H bs own₀
-  pub running : Running ls H bs wall₀ own₀ t i hs wakes worked idle wall own
-  pub idle_small : idle ≤ t
-
--- how it begins
-pub going_first : {n H : ℕ} {start : List HeldBooth} {bs wall own : List ℕ} (e : Ready n H start bs wall own)
-    → Going e.lines n H bs wall own 0 0 start (replicate 8 0) (replicate 8 0) 0 wall own
-going_first e =
-    record {
-      early = omega arith;
-      within = omega arith;
-      few = e.set.few;
-      ticks = e.set.ticks;
-      wall_room = e.wall_room;
-      own_room = e.set.room;
-      wall_length = refl;
-      own_length = refl;
-      set = e.set;
-      running = e.running;
-      idle_small = omega arith;
-    }
+-- ---- the steps of a session on its way
 
 -- booth i's part lies inside the own record
 pub row_inside : (i n H : ℕ) → i < n → i * H + H ≤ n * H
@@ -366,10 +336,10 @@ module _ {ls : List Line} {n H : ℕ} {bs wall₀ own₀ : List ℕ} {t i : ℕ}
         idle_small = omega (arith, g.idle_small);
       }
 
-  there : (i ≡ n → ⊥) → i < length (ls)
-  there e = omega (arith, g.within, g.set.count)
+  there : i < n → i < length ls
+  there e = omega (arith, g.set.count)
 
-  pub going_sleeps : (i ≡ n → ⊥) → t < get_or wakes i 0 → Going ls n H bs wall₀ own₀ t (i + 1) hs wakes worked idle wall own
+  pub going_sleeps : i < n → t < get_or wakes i 0 → Going ls n H bs wall₀ own₀ t (i + 1) hs wakes worked idle wall own
   going_sleeps e h =
       record {
         early = g.early;
@@ -387,11 +357,11 @@ module _ {ls : List Line} {n H : ℕ} {bs wall₀ own₀ : List ℕ} {t i : ℕ}
         idle_small = g.idle_small;
       }
 
-  part_length : (i ≡ n → ⊥) → length (take H (drop (i * H) own)) ≡ H
-  part_length e = length-take-le H (drop (i * H) own) (omega (arith, length-drop (i * H) own, row_inside i n H (omega (arith, g.within)), g.own_room))
+  part_length : i < n → length (take H (drop (i * H) own)) ≡ H
+  part_length e = length-take-le H (drop (i * H) own) (omega (arith, length-drop (i * H) own, row_inside i n H e, g.own_room))
 
   -- what a booth's turn asks
-  pub turn_asks : (i ≡ n → ⊥) → t < H → (w : ℕ) → w ≡ H
+  pub turn_asks : i < n → t < H → (w : ℕ) → w ≡ H
       → WholeLog bs × Fit bs (get_or hs i nowhere) × (t < length (take w (drop (i * H) own))) × (length (take w (drop (i * H) own)) < 1000001)
       × ((get_or hs i nowhere).clock.0 ≤ due (get_or hs i nowhere).promise t)
   turn_asks e h w q =
@@ -405,13 +375,13 @@ module _ {ls : List Line} {n H : ℕ} {bs wall₀ own₀ : List ℕ} {t i : ℕ}
         subst (λ p. (get_or hs i nowhere).clock.0 ≤ due p t) same.promise (omega (arith, same.clock)),
       )
 
-  worked_small : (i ≡ n → ⊥) → get_or worked i 0 ≤ t
-  worked_small e = omega (arith, r.course.worked_is i (there e), count_most i (settled_at t ls (entries_of bs)).wall, length_wall ls (entries_of bs) t)
+  pub worked_fits : (k : ℕ) → k < n → get_or worked k 0 + 1 < 4294967296
+  worked_fits k l =
+      let small : get_or worked k 0 ≤ t =
+      omega (arith, r.course.worked_is k (omega (arith, g.set.count)), count_most k (settled_at t ls (entries_of bs)).wall, length_wall ls (entries_of bs) t) in
+      omega (arith, g.early, g.ticks)
 
-  pub worked_fits : (i ≡ n → ⊥) → get_or worked i 0 + 1 < 4294967296
-  worked_fits e = omega (arith, worked_small e, g.early, g.ticks)
-
-  module _ (e : i ≡ n → ⊥) (less : t < H) (w : ℕ) (q : w ≡ H) (a : Asked) (part : List ℕ) (after : AfterAsk bs t (get_or hs i nowhere) a)
+  module _ (e : i < n) (less : t < H) (w : ℕ) (q : w ≡ H) (a : Asked) (part : List ℕ) (after : AfterAsk bs t (get_or hs i nowhere) a)
       (state : (l : Line) → l.promise ≡ (get_or hs i nowhere).promise → shown l bs a.booth part ≡ asked t (shown l bs (get_or hs i nowhere) (take w (drop (i * H) own))))
       (may : (l : Line) → l.promise ≡ (get_or hs i nowhere).promise → a.worked ≡ may_work t (settle t (shown l bs (get_or hs i nowhere) (take w (drop (i * H) own)))))
       (rest : drop a.booth.clock.0 part ≡ drop a.booth.clock.0 (take w (drop (i * H) own))) (long : length part ≡ length (take w (drop (i * H) own))) where
@@ -433,7 +403,7 @@ module _ {ls : List Line} {n H : ℕ} {bs wall₀ own₀ : List ℕ} {t i : ℕ}
         omega (arith, after.cap, due_at_most (get_or hs i nowhere).promise s (suc t))
 
     inside : i * H + H ≤ length own
-    inside = omega (arith, row_inside i n H (omega (arith, g.within)), g.own_room)
+    inside = omega (arith, row_inside i n H e, g.own_room)
 
     pub going_passed : a.worked ≡ false
         → Going ls n H bs wall₀ own₀ t (i + 1) (set hs i a.booth) (set wakes i a.wakes.0) worked idle wall (take (i * H) own ++ (part ++ drop w (drop (i * H) own)))
@@ -486,7 +456,7 @@ going_idle {ls} {n} {H} {bs} {wall₀} {own₀} {t} {i} {hs} {wakes} {worked} {i
 
 -- a booth that goes on plays, and leaves the part with its task written
 module _ {ls : List Line} {n H : ℕ} {bs wall₀ own₀ : List ℕ} {t i : ℕ} {hs : List HeldBooth} {wakes worked : List ℕ} {idle : ℕ} {wall own : List ℕ}
-    (g : Going ls n H bs wall₀ own₀ t i hs wakes worked idle wall own) (e : i ≡ n → ⊥) (less : t < H) (w : ℕ) (q : w ≡ H) where
+    (g : Going ls n H bs wall₀ own₀ t i hs wakes worked idle wall own) (e : i < n) (less : t < H) (w : ℕ) (q : w ≡ H) where
   abbrev singer : HeldBooth
   singer = get_or hs i nowhere
 
@@ -509,20 +479,18 @@ module _ {ls : List Line} {n H : ℕ} {bs wall₀ own₀ : List ℕ} {t i : ℕ}
       clock : played ≡ played_on singer → played.clock.0 ≡ singer.clock.0 + 1
       clock p = ap (λ (x : HeldBooth). x.clock.0) p ∙ played_clock singer
 
-module _ {ls : List Line} {n H : ℕ} {bs wall₀ own₀ : List ℕ} {t : ℕ} {hs : List HeldBooth} {wakes worked : List ℕ} {idle : ℕ} {wall own : List ℕ} where
-  sleeps_on : (d i : ℕ) → Going ls n H bs wall₀ own₀ t i hs wakes worked idle wall own → i + d ≤ n → ((j : ℕ) → j < i + d → i ≤ j → t < get_or wakes j 0)
-      → Going ls n H bs wall₀ own₀ t (i + d) hs wakes worked idle wall own
-  sleeps_on zero i g within asleep = subst (λ k. Going ls n H bs wall₀ own₀ t k hs wakes worked idle wall own) (sym (add-zero i)) g
-  sleeps_on (suc d) i g within asleep =
-      let e : i + 1 + d ≡ i + suc d = omega arith in
-      subst (λ k. Going ls n H bs wall₀ own₀ t k hs wakes worked idle wall own) e
-      (sleeps_on d (i + 1) (going_sleeps g (λ q. omega arith) (asleep i (omega arith) (omega arith))) (omega arith) (λ j l m. asleep j (omega arith) (omega arith)))
+module _ {ls : List Line} {n H : ℕ} {bs wall₀ own₀ : List ℕ} {t : ℕ} {hs : List HeldBooth} {wakes worked : List ℕ} {idle : ℕ} {wall own : List ℕ}
+    (g : Going ls n H bs wall₀ own₀ t 0 hs wakes worked idle wall own) (asleep : (j : ℕ) → j < n → t < get_or wakes j 0) where
+  pub going_asleep : (k : ℕ) → k ≤ n → Going ls n H bs wall₀ own₀ t k hs wakes worked idle wall own
+  going_asleep zero l = g
+  going_asleep (suc k) l =
+      subst (λ m. Going ls n H bs wall₀ own₀ t m hs wakes worked idle wall own) (add-one k) (going_sleeps (going_asleep k (omega arith)) (omega arith) (asleep k (omega arith)))
 
-  pub going_on : {i : ℕ} → Going ls n H bs wall₀ own₀ t i hs wakes worked idle wall own → {k : ℕ} → NextAwake wakes n i t k → Going ls n H bs wall₀ own₀ t k hs wakes worked idle wall own
-  going_on {i} g {k} a =
-      let e : i + (k - i) ≡ k = omega (arith, a.later) in
-      subst (λ m. Going ls n H bs wall₀ own₀ t m hs wakes worked idle wall own) e
-      (sleeps_on (k - i) i g (omega (arith, a.within)) (λ j l m. a.asleep j (omega (arith, a.later)) m))
+-- what the code holds of a session on its way
+abbrev pub midway : {ls : List Line} {n H : ℕ} {bs wall₀ own₀ : List ℕ} {t i : ℕ} {worked : List ℕ} {idle : ℕ} {wall own : List ℕ} (c : HeldCourse)
+    → Going ls n H bs wall₀ own₀ t i c.booths c.wakes worked idle wall own → Midway n H bs t i own c
+midway {ls} {n} {H} {bs} {wall₀} {own₀} {t} {i} {worked} {idle} {wall} {own} c g =
+    record { lines = ls; wall₀ = wall₀; own₀ = own₀; worked = worked; idle = idle; wall = wall; going = g }
 
 -- ---- what the last loop keeps
 
@@ -575,16 +543,6 @@ module _ (n H : ℕ) (played : List HeldBooth) (bs own₁ : List ℕ) (i : ℕ) 
       ∙ same
 
 -- ---- the booths opened one after the other, and their clocks noted
-
-pub none_open : (lines : List HeldLine) (bs : List ℕ) (hs : List HeldBooth) → length hs ≡ 8 → OpenedTo 0 lines bs hs
-none_open lines bs hs eight =
-    record {
-      size = eight;
-      fit = λ k l. absurd (not-suc-le-zero l);
-      number = λ k l. absurd (not-suc-le-zero l);
-      promise = λ k l. absurd (not-suc-le-zero l);
-      fresh = λ k l. absurd (not-suc-le-zero l);
-    }
 
 waiting_all : (bs : List ℕ) (k : ℕ) → waiting_at bs k 9 ≡ own_entries k (entries_of bs)
 unfolding waiting_at entries_of

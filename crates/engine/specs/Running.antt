@@ -1,5 +1,5 @@
 -- What the engine's inner functions ask and give: the booths that the code keeps are the booths of the rules, and the course is the session's.
-use Rattle.std.specs.Prelude.{◌≡◌, List, [], map, ℕ, ◌*◌, ◌≤◌, ◌<◌, length, get_or, take, replicate}
+use Rattle.std.specs.Prelude.{◌≡◌, List, [], map, ℕ, ◌+◌, ◌*◌, ◌≤◌, ◌<◌, length, get_or, set, take, replicate}
 use Rattle.rules.specs.declared.Line.{Line as HeldLine}
 use Rattle.rules.specs.declared.Table.{Table}
 use Rattle.rules.specs.BoothTable.{Line}
@@ -12,6 +12,7 @@ use Rattle.arrivals.specs.Places.{waiting_at, Place, WholeLog, entries_of}
 use Rattle.laws.specs.Courses.{AsRead, nobooth, Course, Closing}
 use Rattle.booth.specs.declared.Booth.{Booth as HeldBooth}
 use Rattle.booth.specs.BoothHeld.{owed, shown, Fit}
+use Rattle.engine.specs.declared.Course.{Course as HeldCourse}
 use Rattle.engine.specs.declared.Stage.{Stage}
 
 -- stands past the end of an array of booths, where nothing is read
@@ -89,12 +90,39 @@ pub record Ready (n H : ℕ) (start : List HeldBooth) (bs wall own : List ℕ) :
 abbrev pub SleepTo : List ℕ → ℕ → ℕ → Type 0
 SleepTo wakes n soonest = (j : ℕ) → j < n → soonest ≤ get_or wakes j 0
 
--- the booths from one on sleep at t, up to the first that is awake
-pub record NextAwake (wakes : List ℕ) (n from t r : ℕ) : Type 0 where
-  pub later : from ≤ r
-  pub within : r ≤ n
-  pub asleep : (j : ℕ) → j < r → from ≤ j → t < get_or wakes j 0
-  pub awake : r < n → get_or wakes r 0 ≤ t
+-- the session is on its way: t wall ticks are played, the first i booths were asked at t in vain, and every record has its room
+pub record Going (ls : List Line) (n H : ℕ) (bs wall₀ own₀ : List ℕ) (t i : ℕ) (hs : List HeldBooth) (wakes worked : List ℕ) (idle : ℕ) (wall own : List ℕ) : Type 0 where
+  pub early : t ≤ H
+  pub within : i ≤ n
+  pub few : n ≤ 8
+  pub ticks : H ≤ 1000000
+  pub wall_room : H ≤ length wall
+  pub own_room : n * H ≤ length own
+  pub wall_length : length wall ≡ length wall₀
+  pub own_length : length own ≡ length own₀
+  pub set : Set ls n H bs own₀
+  pub running : Running ls H bs wall₀ own₀ t i hs wakes worked idle wall own
+  pub idle_small : idle ≤ t
+
+-- the booths and the own record are those of some session on its way
+pub record Midway (n H : ℕ) (bs : List ℕ) (t i : ℕ) (own : List ℕ) (c : HeldCourse) : Type 0 where
+  pub lines : List Line
+  pub wall₀ : List ℕ
+  pub own₀ : List ℕ
+  pub worked : List ℕ
+  pub idle : ℕ
+  pub wall : List ℕ
+  pub going : Going lines n H bs wall₀ own₀ t i c.booths c.wakes worked idle wall own
+
+-- whatever session it was with the first i booths asked at t, now the first k were asked, all in vain
+abbrev pub AskedTo : ℕ → ℕ → List ℕ → ℕ → ℕ → List ℕ → HeldCourse → ℕ → List ℕ → HeldCourse → Type 0
+AskedTo n H bs t i own c k own' c' = (e : Midway n H bs t i own c) → Going e.lines n H bs e.wall₀ e.own₀ t k c'.booths c'.wakes e.worked e.idle e.wall own'
+
+-- whatever session it was, booth k worked at t: once that is written to the wall record and counted, the next wall tick comes
+abbrev pub Worked : ℕ → ℕ → List ℕ → ℕ → ℕ → List ℕ → HeldCourse → ℕ → List ℕ → HeldCourse → Type 0
+Worked n H bs t i own c k own' c' =
+    (e : Midway n H bs t i own c)
+    → Going e.lines n H bs e.wall₀ e.own₀ (t + 1) 0 c'.booths c'.wakes (set e.worked k (get_or e.worked k 0 + 1)) e.idle (set e.wall t k) own'
 
 -- all H wall ticks are played
 pub record Through (ls : List Line) (H : ℕ) (bs wall₀ own₀ : List ℕ) (s : Stage) (wall own : List ℕ) : Type 0 where

@@ -1,8 +1,8 @@
 // The plain engine: every wall tick in turn, booth after booth, then all booths settle at H.
 #![tactic(auto)]
 
-ghost use Rattle.std.specs.Prelude.{◌≡◌, ◌≤◌};
-ghost use Rattle.engine.specs.Running.{ToOpen, Opened, Ready, SleepTo, NextAwake, Ran, Ended, Closed};
+ghost use Rattle.std.specs.Prelude.{◌≡◌, ◌+◌, ◌≤◌, ◌<◌, length, true, false, MatchOption};
+ghost use Rattle.engine.specs.Running.{ToOpen, Opened, Ready, Midway, AskedTo, Worked, SleepTo, Ran, Ended, Closed};
 
 use booth::Booth;
 use rules::{BOOTHS_ALLOWED, NOBODY, Table, WallTick};
@@ -15,86 +15,76 @@ pub struct Stage {
     pub idle: u32,
 }
 
-impl Stage {
-    fn after(booths: [Booth; BOOTHS_ALLOWED], worked: [u32; BOOTHS_ALLOWED], idle: u32) -> Self
-        ensures { result ≡ record { booths = booths; worked = worked; idle = idle } }
-    {
-        Stage {
-            booths,
-            worked,
-            idle,
-        }
-    }
-}
-
 // Every booth of the table before wall tick 0.
 pub fn open_all(table: Table, log: &[u8]) -> [Booth; BOOTHS_ALLOWED]
     requires { ToOpen table log.now }
     ensures { Opened table log.now result }
 {
-    let lines = table.lines;
-    let n = table.booths;
     let mut booths = [Booth::absent(); BOOTHS_ALLOWED];
-    let mut j = 0;
-    while j < n {
-        let line = lines[j];
-        booths[j] = Booth::open(j, line, log);
-        j += 1;
+    for j in 0..table.booths {
+        booths[j] = Booth::open(j, table.lines[j], log);
     }
     booths
 }
 
-// The first booth from `from` on that is awake at `t`; n where all of them sleep, as they do before `soonest`.
-fn next_awake(
-    wakes: &[usize; BOOTHS_ALLOWED],
-    n: usize,
-    from: usize,
-    t: usize,
-    soonest: usize,
-) -> usize
-    requires { (from ≤ n) × (n ≤ 8) × SleepTo wakes.now n soonest }
-    ensures { NextAwake wakes.now n from t result }
-{
-    if t < soonest {
-        return n;
-    }
-    let mut i = from;
-    while i < n {
-        if wakes[i] <= t {
-            return i;
+// The booths on their way through the wall ticks, and for each the wall tick before which it cannot work.
+// Two arrays and not one of pairs: the booths go on alone to `Stage` and `close`, and the rules' course speaks of two lists.
+#[derive(Clone, Copy)]
+struct Course {
+    booths: [Booth; BOOTHS_ALLOWED],
+    wakes: [usize; BOOTHS_ALLOWED],
+}
+
+// `n`, `log` and `h` stay parameters: in a struct that lends the log each clause names them through the struct, and is longer.
+impl Course {
+    // The wall tick before which all booths sleep, `end` at the latest.
+    fn sleep_to(&self, n: usize, end: usize) -> usize
+        requires { n ≤ 8 }
+        ensures { SleepTo self.now.wakes n result }
+    {
+        let mut soonest = end;
+        for wake in &self.wakes[..n] {
+            soonest = soonest.min(*wake);
         }
-        i += 1;
+        soonest
     }
-    i
+
+    // Booth i's turn at t: whether it worked. A booth that goes on with its task plays at once, any other is asked.
+    fn turn(&mut self, n: usize, i: usize, log: &[u8], own: &mut [u8], h: usize, t: usize) -> bool
+        requires { (i < n) × (t < h) × Midway n h log.now t i own.old self.old }
+        ensures worked { result ≡ true → Worked n h log.now t i own.old self.old i own.new self.new }
+        ensures rested { result ≡ false → AskedTo n h log.now t i own.old self.old (i + 1) own.new self.new }
+    {
+        let a = i * h;
+        let part = &mut own[a..a + h];
+        let tick = WallTick(t as u32);
+        if self.booths[i].goes_on(tick) {
+            let played = self.booths[i].play_on(part, self.booths[i].first);
+            self.booths[i] = played;
+            self.wakes[i] = played.opens.from.0 as usize;
+            return true;
+        }
+        let asked = self.booths[i].ask(log, part, tick);
+        self.booths[i] = asked.booth;
+        self.wakes[i] = asked.wakes.0 as usize;
+        asked.worked
+    }
+
+    // Wall tick t: the booths that are awake are asked in turn until one works; which one did.
+    fn play(&mut self, n: usize, log: &[u8], own: &mut [u8], h: usize, t: usize) -> Option<usize>
+        requires { (t < h) × Midway n h log.now t 0 own.old self.old }
+        ensures { MatchOption result (AskedTo n h log.now t 0 own.old self.old n own.new self.new) (λ i. (i < n) × Worked n h log.now t 0 own.old self.old i own.new self.new) }
+    {
+        for i in 0..n {
+            if self.wakes[i] <= t && self.turn(n, i, log, own, h, t) {
+                return Some(i);
+            }
+        }
+        None
+    }
 }
 
-fn sooner(a: usize, b: usize) -> usize
-    ensures { (result ≤ a) × (result ≤ b) }
-{
-    if a < b {
-        return a;
-    }
-    b
-}
-
-// The wall tick before which all booths sleep, `end` at the latest; looked for anew once the one that was known is reached.
-fn sleep_to(wakes: &[usize; BOOTHS_ALLOWED], n: usize, t: usize, known: usize, end: usize) -> usize
-    requires { (n ≤ 8) × SleepTo wakes.now n known }
-    ensures { SleepTo wakes.now n result }
-{
-    if t < known {
-        return known;
-    }
-    let mut soonest = end;
-    let mut i = 0;
-    while i < n {
-        soonest = sooner(soonest, wakes[i]);
-        i += 1;
-    }
-    soonest
-}
-
-// Wall tick after wall tick, booth after booth: i booths were asked at t in vain. A booth that cannot work before it wakes is passed over.
+// Wall tick after wall tick. Before `soonest` all booths sleep, and nobody is asked.
 pub fn run(
     start: [Booth; BOOTHS_ALLOWED],
     n: usize,
@@ -106,54 +96,31 @@ pub fn run(
     requires { Ready n h start log.now wall.old own.old }
     ensures { Ran n h start log.now wall.old own.old result wall.new own.new }
 {
-    let mut booths = start;
-    let mut wakes = [0usize; BOOTHS_ALLOWED];
+    let mut course = Course {
+        booths: start,
+        wakes: [0; BOOTHS_ALLOWED],
+    };
     let mut worked = [0u32; BOOTHS_ALLOWED];
     let mut sung = 0;
-    let mut t = 0;
-    let mut i = 0;
     let mut soonest = 0;
-    while t < h {
-        i = next_awake(&wakes, n, i, t, soonest);
-        if i == n {
-            soonest = sleep_to(&wakes, n, t, soonest, h);
-            wall[t] = NOBODY;
-            t += 1;
-            i = 0;
-            continue;
+    for t in 0..h {
+        if soonest <= t {
+            if let Some(i) = course.play(n, log, own, h, t) {
+                wall[t] = i as u8;
+                worked[i] += 1;
+                sung += 1;
+                continue;
+            }
+            soonest = course.sleep_to(n, h);
         }
-        soonest = 0;
-        let a = i * h;
-        let tick = WallTick(t as u32);
-        let number = i as u8;
-        if booths[i].goes_on(tick) {
-            let k = booths[i].first;
-            let played = booths[i].play_on(&mut own[a..a + h], k);
-            booths[i] = played;
-            wakes[i] = played.opens.from.0 as usize;
-            wall[t] = number;
-            worked[i] += 1;
-            sung += 1;
-            t += 1;
-            i = 0;
-            continue;
-        }
-        let asked = booths[i].ask(log, &mut own[a..a + h], tick);
-        let booth = asked.booth;
-        booths[i] = booth;
-        wakes[i] = asked.wakes.0 as usize;
-        if asked.worked {
-            wall[t] = number;
-            worked[i] = worked[i] + 1;
-            sung += 1;
-            t += 1;
-            i = 0;
-            continue;
-        }
-        i += 1;
+        wall[t] = NOBODY;
     }
     let idle = (h - sung) as u32;
-    Stage::after(booths, worked, idle)
+    Stage {
+        booths: course.booths,
+        worked,
+        idle,
+    }
 }
 
 // After the last wall tick all booths settle at H.
@@ -168,13 +135,10 @@ pub fn close(
     ensures { Closed n h played log.now own.old result own.new }
 {
     let mut booths = played;
-    let mut i = 0;
-    while i < n {
+    for i in 0..n {
         let a = i * h;
         let row = &mut own[a..a + h];
-        let settled = booths[i].settle(log, row, WallTick(h as u32));
-        booths[i] = settled;
-        i += 1;
+        booths[i] = booths[i].settle(log, row, WallTick(h as u32));
     }
     booths
 }

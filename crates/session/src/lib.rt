@@ -29,11 +29,8 @@ fn clocks_of(booths: [Booth; BOOTHS_ALLOWED], n: usize) -> [u32; BOOTHS_ALLOWED]
     ensures { Clocks n booths result }
 {
     let mut clocks = [0u32; BOOTHS_ALLOWED];
-    let mut i = 0;
-    while i < n {
-        let b = booths[i];
-        clocks[i] = b.clock.0;
-        i += 1;
+    for i in 0..n {
+        clocks[i] = booths[i].clock.0;
     }
     clocks
 }
@@ -47,7 +44,7 @@ fn play_all(table: Table, log: &[u8], wall: &mut [u8], own: &mut [u8], h: usize)
 {
     let n = table.booths;
     let start = engine::open_all(table, log);
-    let stage = engine::run(start, n, log, wall, &mut own[..], h);
+    let stage = engine::run(start, n, log, wall, own, h);
     let played = stage.booths;
     let booths = engine::close(played, n, log, own, h);
     let clocks = clocks_of(booths, n);

@@ -1,10 +1,6 @@
 -- `engine::open_all` meets its contract: the first j booths are open. Assumes nothing.
-use Prim.Native.Nat.{◌-◌, ◌≤◌}
 use Rattle.engine.specs.Running.{OpenedTo}
 use Rattle.engine.proofs.open_all.Given as goal
 
 abbrev pub invariant-loop-j : goal.invariant-loop-j
-invariant-loop-j l = (l.j ≤ l.n) × OpenedTo l.j l.lines l.log l.booths
-
-abbrev pub decreases-loop-j : goal.decreases-loop-j
-decreases-loop-j l = l.n - l.j
+invariant-loop-j l = OpenedTo l.j l.table.lines l.log l.booths
