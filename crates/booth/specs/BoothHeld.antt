@@ -1,5 +1,5 @@
 -- What a booth as the code holds it is to the rules: the booth of document 01, with its entries still in the log and its row in the lent record.
-use Rattle.std.specs.Prelude.{◌≡◌, Bool, true, false, not, ◌&&◌, ◌||◌, List, [], ◌∷◌, ◌++◌, ℕ, suc, ◌+◌, ◌-◌, ◌*◌, ◌≤◌, ◌<◌, leb, ltb, eqb, length, get_or, take, drop, set, replicate}
+use Rattle.std.specs.Prelude.{◌≡◌, Option, Some, None, Bool, true, false, not, ◌&&◌, ◌||◌, List, [], ◌∷◌, ◌++◌, ℕ, suc, ◌+◌, ◌-◌, ◌*◌, ◌≤◌, ◌<◌, leb, ltb, eqb, length, get_or, take, drop, set, replicate}
 use Rattle.rules.specs.BoothTable.{Line, longest_period}
 use Rattle.rules.specs.ArrivalLog.{entry_at}
 use Rattle.rules.specs.Due.{due, playable_from}
@@ -10,8 +10,6 @@ use Rattle.arrivals.specs.Places.{waiting_at, Place}
 use Rattle.laws.specs.Courses.{after_first}
 use Rattle.booth.specs.declared.Booth.{Booth as HeldBooth}
 use Rattle.booth.specs.declared.Asked.{Asked}
-use Rattle.booth.specs.declared.Chosen.{Chosen}
-use Rattle.booth.specs.declared.Chosen.TheVariants.{Task, Nothing}
 
 abbrev pub never : ℕ
 never = 4294967295
@@ -49,8 +47,8 @@ shown l bs h row =
     }
 
 -- a settled booth's answer: its first task with demand, if it may work
-unfoldable pub settled_answer : ℕ → Booth → Chosen
-settled_answer t b = elim (may_work t b) [ true ↦ Task (first_task 0 b.left) | false ↦ Nothing ]
+unfoldable pub settled_answer : ℕ → Booth → Option ℕ
+settled_answer t b = elim (may_work t b) [ true ↦ Some (first_task 0 b.left) | false ↦ None ]
 
 -- asked at t, a booth settles, and works if it then may
 unfoldable pub asked : ℕ → Booth → Booth

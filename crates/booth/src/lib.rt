@@ -44,13 +44,6 @@ pub struct Booth {
     pub left: u32,
 }
 
-// What a settled booth answers.
-#[derive(Clone, Copy)]
-pub enum Chosen {
-    Task(usize),
-    Nothing,
-}
-
 // A booth that was asked at a wall tick, whether it worked, and the wall tick before which it need not be asked again.
 #[derive(Clone, Copy)]
 pub struct Asked {
@@ -64,25 +57,12 @@ fn next_of(log: &[u8], number: usize, from: usize) -> usize
     requires { Place log.now from }
     ensures { Found log.now number from result }
 {
-    let mut at = from;
-    while at < log.len() {
+    for at in (from..log.len()).step_by(ENTRY_BYTES) {
         if arrivals::entry_booth(log, at) == number {
             return at;
         }
-        at += ENTRY_BYTES;
     }
-    at
-}
-
-// Own ticks passed over are written 255.
-fn silence(part: &mut [u8])
-    ensures { part.new ≡ replicate (length part.old) 255 }
-{
-    let mut i = 0;
-    while i < part.len() {
-        part[i] = NOBODY;
-        i += 1;
-    }
+    log.len()
 }
 
 impl Booth {
@@ -198,7 +178,7 @@ impl Booth {
         self.demanding(all)
     }
 
-    // The own clock moves on to `to`, if it is not there yet.
+    // The own clock moves on to `to`, if it is not there yet; the own ticks passed over are written 255.
     fn pass(mut self, row: &mut [u8], to: OwnTick) -> Self
         requires clock_in_bounds { (self.clock.0 ≤ length row.old) × (to.0 ≤ length row.old) }
         requires allowance_nonzero { (0 < self.promise.allowance) × (self.opens ≡ opens_at self.promise self.clock.0) × (page.playable_from self.promise to.0 < 4294967296) }
@@ -210,7 +190,7 @@ impl Booth {
         if end <= from {
             return self;
         }
-        silence(&mut row[from..end]);
+        row[from..end].fill(NOBODY);
         self.clock = to;
         let promise = self.promise;
         self.opens = rules::opens_at(promise, to);
@@ -282,19 +262,19 @@ impl Booth {
         self.catch_up(log, row, t)
     }
 
-    // A settled booth answers with a task to run at t, or with nothing.
-    fn choose(self, t: WallTick) -> Chosen
+    // A settled booth answers with a task to run at t, or with none.
+    fn choose(self, t: WallTick) -> Option<usize>
         requires { Steady self × (t.0 < 1000001) }
         ensures { (l : PageLine) (bs row : List ℕ) → l.promise ≡ self.promise → result ≡ settled_answer t.0 (shown l bs self row) }
     {
         let first = self.first;
         if first == NO_TASK {
-            return Chosen::Nothing;
+            return None;
         }
         if self.opens.from.0 <= t.0 {
-            Chosen::Task(first)
+            Some(first)
         } else {
-            Chosen::Nothing
+            None
         }
     }
 
@@ -370,7 +350,7 @@ impl Booth {
         ensures row { drop result.booth.clock.0 row.new ≡ drop result.booth.clock.0 row.old }
     {
         self = self.settle(log, &mut row[..], t);
-        let Chosen::Task(k) = self.choose(t) else {
+        let Some(k) = self.choose(t) else {
             let wakes = self.wakes();
             return Asked {
                 booth: self,
