@@ -15,7 +15,7 @@ use Rattle.laws.proofs.DueLaws.{laws_of_due, due_at_most}
 use Rattle.arrivals.specs.Places.{WholeLog}
 use Rattle.booth.specs.declared.Booth.{Booth as HeldBooth}
 use Rattle.std.specs.Prelude.{Some, None}
-use Rattle.booth.specs.BoothHeld.{owed, shown, settled_answer, asked, takes_next, goes_on, wakes_at, Steady, Fit, AfterAsk, played_on}
+use Rattle.booth.specs.BoothHeld.{owed, shown, settled_answer, asked, takes_next, goes_on, wakes_at, Steady, Fit, ToPlay, AfterAsk, played_on}
 use Rattle.booth.proofs.Demand.{owed_eight}
 use Rattle.booth.proofs.Working.{held_first, opens_from, may_held, task_held, answers_task, Played, played_on_lem, shown_worked, after_play}
 use Rattle.booth.proofs.Settling.{both_true, settles_first, settled_busy}
@@ -101,11 +101,18 @@ played_clock h = refl
 
 -- what playing on asks
 pub goes_on_asks : (bs : List ℕ) (t : ℕ) (h : HeldBooth) (row : List ℕ) → Fit bs h → t < length row → length row < 1000001 → h.clock.0 ≤ due h.promise t → goes_on t h ≡ true
-    → Steady h × (h.first < 8) × (h.first ≡ h.first) × (h.clock.0 < length row) × (length row < 1000001) × (h.opens.from.0 < 1000001)
+    → ToPlay h h.first row
 goes_on_asks bs t h row fit within short cap q =
     let f = held_first h fit.steady (goes t h q).0 in
     let most = due_at_most h.promise fit.steady.sound t in
-    (fit.steady, omega (arith, f.there, owed_eight h, fit.steady.eight), refl, omega arith, short, omega (arith, (goes t h q).1))
+    record {
+      steady = fit.steady;
+      few = omega (arith, f.there, owed_eight h, fit.steady.eight);
+      first = refl;
+      inside = omega arith;
+      short = short;
+      opens = omega (arith, (goes t h q).1);
+    }
 
 -- it is settled as it is, may work, and has worked once it has played
 module _ (bs : List ℕ) (t : ℕ) (h : HeldBooth) (row : List ℕ) (log : WholeLog bs) (fit : Fit bs h) (cap : h.clock.0 ≤ due h.promise t) (inside : h.clock.0 < length row) (q : goes_on t h ≡ true) where

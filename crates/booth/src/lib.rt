@@ -12,7 +12,7 @@ ghost use Rattle.rules.specs.Values.{line_held};
 ghost use Rattle.rules.specs.InRange.{Sound};
 ghost use Rattle.rules.specs.Fit.{FitLine};
 ghost use Rattle.arrivals.specs.Places.{waiting_at, Place, WholeLog};
-ghost use Rattle.booth.specs.BoothHeld.{absent_booth, owed, shown, settled_answer, asked, takes_next, taken_next, goes_on, wakes_at, Found, Looked, Steady, Fit, Stays, AfterSettle, AfterPlay, AfterAsk, demanding, clock_at, played_on, lengthened};
+ghost use Rattle.booth.specs.BoothHeld.{absent_booth, owed, shown, settled_answer, asked, takes_next, taken_next, goes_on, wakes_at, Found, Looked, Steady, Fit, Stays, KeptFrom, ShownBy, ToSettle, Settled, ToPlay, AfterPlay, AfterAsk, demanding, clock_at, played_on, lengthened};
 
 use arrivals::FIRST_ENTRY;
 use rules::{ENTRY_BYTES, Line, NOBODY, Opens, OwnTick, Promise, TASKS_ALLOWED, WallTick};
@@ -215,7 +215,7 @@ impl Booth {
         requires whole_log { WholeLog log.now × Fit log.now self × (self.at < length log.now) }
         requires clock_in_bounds { (self.clock.0 ≤ length row.old) × (self.point.0 ≤ length row.old) × (page.playable_from self.promise self.point.0 < 4294967296) }
         ensures fit { Fit log.now result × (self.at < result.at) × Stays self result }
-        ensures state { (l : PageLine) → l.promise ≡ self.promise → shown l log.now result row.new ≡ taken_next (shown l log.now self row.old) }
+        ensures state { ShownBy taken_next log.now self row.old result row.new }
         ensures row { row.new ≡ lengthened row.old self.clock.0 (replicate (self.point.0 - self.clock.0) 255) }
     {
         let at = self.at;
@@ -230,10 +230,8 @@ impl Booth {
 
     // Takes the entries that are to be added at t, then rests where no demand is left.
     fn catch_up(mut self, log: &[u8], row: &mut [u8], t: WallTick) -> Self
-        requires { WholeLog log.now × Fit log.now self × (t.0 < 1000001) × (t.0 ≤ length row.old) × (self.clock.0 ≤ page.due self.promise t.0) }
-        ensures fit { AfterSettle log.now t.0 self result }
-        ensures state { (l : PageLine) → l.promise ≡ self.promise → shown l log.now result row.new ≡ moves.settle t.0 (shown l log.now self row.old) }
-        ensures row { drop result.clock.0 row.new ≡ drop result.clock.0 row.old }
+        requires { ToSettle log.now t.0 self row.old }
+        ensures { Settled log.now t.0 self row.old result row.new }
     {
         while self.takes(t) {
             self = self.take_next(log, row);
@@ -248,10 +246,8 @@ impl Booth {
 
     // Settle at t. A booth with demand and no entry to add is settled as it is; most are, so nothing of it is written anew.
     pub fn settle(mut self, log: &[u8], row: &mut [u8], t: WallTick) -> Self
-        requires { WholeLog log.now × Fit log.now self × (t.0 < 1000001) × (t.0 ≤ length row.old) × (self.clock.0 ≤ page.due self.promise t.0) }
-        ensures fit { AfterSettle log.now t.0 self result }
-        ensures state { (l : PageLine) → l.promise ≡ self.promise → shown l log.now result row.new ≡ moves.settle t.0 (shown l log.now self row.old) }
-        ensures row { drop result.clock.0 row.new ≡ drop result.clock.0 row.old }
+        requires { ToSettle log.now t.0 self row.old }
+        ensures { Settled log.now t.0 self row.old result row.new }
     {
         if self.takes(t) {
             return self.catch_up(log, row, t);
@@ -264,7 +260,7 @@ impl Booth {
 
     // A settled booth answers with a task to run at t, or with none.
     fn choose(self, t: WallTick) -> Option<usize>
-        requires { Steady self × (t.0 < 1000001) }
+        requires { Steady self }
         ensures { (l : PageLine) (bs row : List ℕ) → l.promise ≡ self.promise → result ≡ settled_answer t.0 (shown l bs self row) }
     {
         let first = self.first;
@@ -299,7 +295,7 @@ impl Booth {
 
     // One tick of the first task is played: its number goes into the row at u, u grows by 1.
     pub fn play_on(mut self, row: &mut [u8], k: usize) -> Self
-        requires { Steady self × (k < 8) × (k ≡ self.first) × (self.clock.0 < length row.old) × (length row.old < 1000001) × (self.opens.from.0 < 1000001) }
+        requires { ToPlay self k row.old }
         ensures state { result ≡ played_on self }
         ensures row { row.new ≡ set row.old self.clock.0 self.first }
     {
@@ -316,10 +312,10 @@ impl Booth {
 
     // The booth works: its first task with demand loses 1, its number goes into the row at u, u grows by 1.
     fn play(mut self, row: &mut [u8], k: usize) -> Self
-        requires { Steady self × (k < 8) × (k ≡ self.first) × (self.clock.0 < length row.old) × (length row.old < 1000001) × (self.opens.from.0 < 1000001) }
+        requires { ToPlay self k row.old }
         ensures fit { AfterPlay self result }
         ensures state { (l : PageLine) (bs : List ℕ) → shown l bs result row.new ≡ moves.work (shown l bs self row.old) }
-        ensures row { drop result.clock.0 row.new ≡ drop result.clock.0 row.old }
+        ensures row { KeptFrom result.clock.0 row.old row.new }
     {
         self = self.play_on(row, k);
         if self.left == 0 {
@@ -345,9 +341,9 @@ impl Booth {
     pub fn ask(mut self, log: &[u8], row: &mut [u8], t: WallTick) -> Asked
         requires { WholeLog log.now × Fit log.now self × (t.0 < length row.old) × (length row.old < 1000001) × (self.clock.0 ≤ page.due self.promise t.0) }
         ensures fit { AfterAsk log.now t.0 self result }
-        ensures state { (l : PageLine) → l.promise ≡ self.promise → shown l log.now result.booth row.new ≡ asked t.0 (shown l log.now self row.old) }
+        ensures state { ShownBy (asked t.0) log.now self row.old result.booth row.new }
         ensures worked { (l : PageLine) → l.promise ≡ self.promise → result.worked ≡ moves.may_work t.0 (moves.settle t.0 (shown l log.now self row.old)) }
-        ensures row { drop result.booth.clock.0 row.new ≡ drop result.booth.clock.0 row.old }
+        ensures row { KeptFrom result.booth.clock.0 row.old row.new }
     {
         self = self.settle(log, &mut row[..], t);
         let Some(k) = self.choose(t) else {

@@ -55,7 +55,14 @@ play-self-requires c =
     let most = due_at_most p c.requires.1.steady.sound t in
     let steady = s.ensures.fit.fit.steady in
     let soon = (laws_of_due.playable s.result.promise steady.sound s.result.clock.0 t).0 first.2 in
-    (steady, first.0, first.1, omega (arith, s.ensures.fit.cap, most, s.auto.row), omega (arith, s.auto.row), omega (arith, soon, opens_from s.result steady))
+    record {
+      steady = steady;
+      few = first.0;
+      first = first.1;
+      inside = omega (arith, s.ensures.fit.cap, most, s.auto.row);
+      short = omega (arith, s.auto.row);
+      opens = omega (arith, soon, opens_from s.result steady);
+    }
 
 pub wakes-wakes-requires-2 : goal.wakes-wakes-requires-2
 wakes-wakes-requires-2 c = c.play-self.ensures.fit.steady
