@@ -17,7 +17,7 @@ ghost use Rattle.booth.specs.BoothHeld.{absent_booth, owed, shown, settled_answe
 use arrivals::FIRST_ENTRY;
 use rules::{ENTRY_BYTES, Line, NOBODY, Opens, OwnTick, Promise, TASKS_ALLOWED, WallTick};
 
-// The tick of an entry that never comes.
+// The tick of an entry that never comes. No Option: `wakes` answers a tick to compare with in any case, and `take_next` would take apart what `takes` has tested.
 const NEVER: u32 = 4294967295;
 // The first task of a booth without demand.
 const NO_TASK: usize = NOBODY as usize;
