@@ -105,15 +105,10 @@ impl Booth {
         let booth = Booth {
             number,
             tasks: line.tasks,
-            demand: [0; TASKS_ALLOWED],
-            first: NO_TASK,
-            left: 0,
             at: FIRST_ENTRY,
             promise,
-            clock: OwnTick(0),
             opens,
-            tick: WallTick(NEVER),
-            point: OwnTick(0),
+            ..Booth::absent()
         };
         booth.look(log, FIRST_ENTRY)
     }
