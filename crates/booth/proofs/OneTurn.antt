@@ -14,38 +14,38 @@ use Rattle.rules.proofs.FirstDemand.{First}
 use Rattle.laws.proofs.DueLaws.{laws_of_due, due_at_most}
 use Rattle.arrivals.specs.Places.{WholeLog}
 use Rattle.booth.specs.declared.Booth.{Booth as HeldBooth}
-use Rattle.booth.specs.declared.Chosen.TheVariants.{Task, Nothing}
-use Rattle.booth.specs.BoothHeld.{owed, shown, settled_answer, asked, takes_next, goes_on, wakes_at, Steady, Fit, AfterAsk, played_on}
+use Rattle.std.specs.Prelude.{Some, None}
+use Rattle.booth.specs.BoothHeld.{owed, shown, settled_answer, asked, takes_next, goes_on, wakes_at, Steady, Fit, ToPlay, AfterAsk, played_on}
 use Rattle.booth.proofs.Demand.{owed_eight}
 use Rattle.booth.proofs.Working.{held_first, opens_from, may_held, task_held, answers_task, Played, played_on_lem, shown_worked, after_play}
 use Rattle.booth.proofs.Settling.{both_true, settles_first, settled_busy}
 
 -- ---- what a settled booth's answer says
 
-told : (t : ℕ) (b : Booth) → may_work t b ≡ true → settled_answer t b ≡ Task (first_task 0 b.left)
+told : (t : ℕ) (b : Booth) → may_work t b ≡ true → settled_answer t b ≡ Some (first_task 0 b.left)
 unfolding settled_answer
 told t b q = rw (q, settled_answer)
 
-refused : (t : ℕ) (b : Booth) → may_work t b ≡ false → settled_answer t b ≡ Nothing
+refused : (t : ℕ) (b : Booth) → may_work t b ≡ false → settled_answer t b ≡ None
 unfolding settled_answer
 refused t b q = rw (q, settled_answer)
 
-pub works : (t : ℕ) (b : Booth) (k : ℕ) → settled_answer t b ≡ Task k → may_work t b ≡ true
+pub works : (t : ℕ) (b : Booth) (k : ℕ) → settled_answer t b ≡ Some k → may_work t b ≡ true
 works t b k e = go (may_work t b) refl
   where
     go : (c : Bool) → may_work t b ≡ c → may_work t b ≡ true
     go true q = q
     go false q =
-        let no : Nothing ≡ Task k = sym (refused t b q) ∙ e in
+        let no : None ≡ Some k = sym (refused t b q) ∙ e in
         let z : ◌≡◌ {A = ℕ} 0 1 = cc in
         absurd (omega arith)
 
-pub in_vain : (t : ℕ) (b : Booth) → settled_answer t b ≡ Nothing → may_work t b ≡ false
+pub in_vain : (t : ℕ) (b : Booth) → settled_answer t b ≡ None → may_work t b ≡ false
 in_vain t b e = go (may_work t b) refl
   where
     go : (c : Bool) → may_work t b ≡ c → may_work t b ≡ false
     go true q =
-        let no : Task (first_task 0 b.left) ≡ Nothing = sym (told t b q) ∙ e in
+        let no : Some (first_task 0 b.left) ≡ None = sym (told t b q) ∙ e in
         let z : ◌≡◌ {A = ℕ} 0 1 = cc in
         absurd (omega arith)
     go false q = q
@@ -59,26 +59,26 @@ not-false : (a : Bool) → not a ≡ true → a ≡ false
 not-false true q = absurd (true≢false (sym q))
 not-false false q = refl
 
-pub chosen_first : (l : Line) (bs : List ℕ) (t : ℕ) (h : HeldBooth) (row : List ℕ) (k : ℕ) → Steady h → l.promise ≡ h.promise → settled_answer t (shown l bs h row) ≡ Task k
+pub chosen_first : (l : Line) (bs : List ℕ) (t : ℕ) (h : HeldBooth) (row : List ℕ) (k : ℕ) → Steady h → l.promise ≡ h.promise → settled_answer t (shown l bs h row) ≡ Some k
     → (k < 8) × (k ≡ h.first) × (h.clock.0 < due h.promise (suc t))
 unfolding shown
 chosen_first l bs t h row k s p e =
     let may = both_held (eqb h.first nobody) (ltb h.clock.0 (due h.promise (suc t))) (sym (may_held l bs h row s p t) ∙ works t (shown l bs h row) k e) in
     let busy : h.first ≡ nobody → ⊥ = eqb-false h.first nobody may.0 in
-    let task : Task (first_task 0 (take h.tasks (owed h))) ≡ Task k = sym (told t (shown l bs h row) (works t (shown l bs h row) k e)) ∙ e in
+    let task : Some (first_task 0 (take h.tasks (owed h))) ≡ Some k = sym (told t (shown l bs h row) (works t (shown l bs h row) k e)) ∙ e in
     let same : first_task 0 (take h.tasks (owed h)) ≡ k = cc in
     let first : k ≡ h.first = sym same ∙ task_held l bs h row s p busy in
     (omega (arith, first, (held_first h s busy).there, owed_eight h, s.eight), first, ltb-true h.clock.0 (due h.promise (suc t)) may.1)
 
 -- ---- the turn
 
-pub asked_rests : (t : ℕ) (b c : Booth) → c ≡ settle t b → settled_answer t c ≡ Nothing → (c ≡ asked t b) × (false ≡ may_work t (settle t b))
+pub asked_rests : (t : ℕ) (b c : Booth) → c ≡ settle t b → settled_answer t c ≡ None → (c ≡ asked t b) × (false ≡ may_work t (settle t b))
 unfolding asked
 asked_rests t b c e answer =
     let no : may_work t (settle t b) ≡ false = ap (may_work t) (sym e) ∙ in_vain t c answer in
     (e ∙ sym (rw (no, asked)), sym no)
 
-pub asked_works : (t : ℕ) (b c : Booth) (k : ℕ) → c ≡ settle t b → settled_answer t c ≡ Task k → (work c ≡ asked t b) × (true ≡ may_work t (settle t b))
+pub asked_works : (t : ℕ) (b c : Booth) (k : ℕ) → c ≡ settle t b → settled_answer t c ≡ Some k → (work c ≡ asked t b) × (true ≡ may_work t (settle t b))
 unfolding asked
 asked_works t b c k e answer =
     let yes : may_work t (settle t b) ≡ true = ap (may_work t) (sym e) ∙ works t c k answer in
@@ -101,11 +101,18 @@ played_clock h = refl
 
 -- what playing on asks
 pub goes_on_asks : (bs : List ℕ) (t : ℕ) (h : HeldBooth) (row : List ℕ) → Fit bs h → t < length row → length row < 1000001 → h.clock.0 ≤ due h.promise t → goes_on t h ≡ true
-    → Steady h × (h.first < 8) × (h.first ≡ h.first) × (h.clock.0 < length row) × (length row < 1000001) × (h.opens.from.0 < 1000001)
+    → ToPlay h h.first row
 goes_on_asks bs t h row fit within short cap q =
     let f = held_first h fit.steady (goes t h q).0 in
     let most = due_at_most h.promise fit.steady.sound t in
-    (fit.steady, omega (arith, f.there, owed_eight h, fit.steady.eight), refl, omega arith, short, omega (arith, (goes t h q).1))
+    record {
+      steady = fit.steady;
+      few = omega (arith, f.there, owed_eight h, fit.steady.eight);
+      first = refl;
+      inside = omega arith;
+      short = short;
+      opens = omega (arith, (goes t h q).1);
+    }
 
 -- it is settled as it is, may work, and has worked once it has played
 module _ (bs : List ℕ) (t : ℕ) (h : HeldBooth) (row : List ℕ) (log : WholeLog bs) (fit : Fit bs h) (cap : h.clock.0 ≤ due h.promise t) (inside : h.clock.0 < length row) (q : goes_on t h ≡ true) where

@@ -27,7 +27,7 @@ use Rattle.laws.proofs.Asleep.{asleep_silent, asleep_busy}
 use Rattle.arrivals.specs.Places.{WholeLog}
 use Rattle.arrivals.proofs.PlaceLaws.{waiting_end}
 use Rattle.booth.specs.declared.Booth.{Booth as HeldBooth}
-use Rattle.booth.specs.declared.Chosen.TheVariants.{Task, Nothing}
+use Rattle.std.specs.Prelude.{Some, None}
 use Rattle.booth.specs.BoothHeld.{owed, shown, settled_answer, wakes_at, Steady, Next, Fit, Stays, AfterPlay, played_on, demanding}
 use Rattle.rules.proofs.FirstDemand.{First, first_here}
 use Rattle.booth.proofs.Demand.{demand_or_none, first_same, first_taken, lose_taken, owed_eight, owed_first, owed_demanding, owed_played}
@@ -57,23 +57,23 @@ module _ (l : Line) (bs : List ℕ) (h : HeldBooth) (row : List ℕ) (s : Steady
       ap (λ p. not (no_demand (take h.tasks (owed h))) && ltb h.clock.0 (due p (suc t))) q
       ∙ ap (λ c. not c && ltb h.clock.0 (due h.promise (suc t))) (sym (held_none l bs h row s))
 
-  pub answers_none : (t : ℕ) → h.first ≡ nobody → Nothing ≡ settled_answer t (shown l bs h row)
+  pub answers_none : (t : ℕ) → h.first ≡ nobody → None ≡ settled_answer t (shown l bs h row)
   unfolding settled_answer
   answers_none t free =
       let may : may_work t (shown l bs h row) ≡ false = may_held t ∙ rw (eq-eqb h.first nobody free) in
       rw (may, settled_answer)
 
-  pub answers_late : (t : ℕ) → (h.first ≡ nobody → ⊥) → due h.promise (suc t) ≤ h.clock.0 → Nothing ≡ settled_answer t (shown l bs h row)
+  pub answers_late : (t : ℕ) → (h.first ≡ nobody → ⊥) → due h.promise (suc t) ≤ h.clock.0 → None ≡ settled_answer t (shown l bs h row)
   unfolding settled_answer
   answers_late t busy late =
       let may : may_work t (shown l bs h row) ≡ false = may_held t ∙ rw (ne_eqb h.first nobody busy, le-ltb h.clock.0 (due h.promise (suc t)) late) in
       rw (may, settled_answer)
 
-  pub answers_task : (t : ℕ) → (h.first ≡ nobody → ⊥) → h.clock.0 < due h.promise (suc t) → Task h.first ≡ settled_answer t (shown l bs h row)
+  pub answers_task : (t : ℕ) → (h.first ≡ nobody → ⊥) → h.clock.0 < due h.promise (suc t) → Some h.first ≡ settled_answer t (shown l bs h row)
   unfolding settled_answer shown
   answers_task t busy early =
       let may : may_work t (shown l bs h row) ≡ true = may_held t ∙ rw (ne_eqb h.first nobody busy, lt-ltb h.clock.0 (due h.promise (suc t)) early) in
-      rw (may, settled_answer) (ap Task (sym (task_held busy)))
+      rw (may, settled_answer) (ap Some (sym (task_held busy)))
 
 -- ---- the work
 

@@ -1,17 +1,15 @@
 -- What a booth as the code holds it is to the rules: the booth of document 01, with its entries still in the log and its row in the lent record.
-use Rattle.std.specs.Prelude.{◌≡◌, Bool, true, false, not, ◌&&◌, ◌||◌, List, [], ◌∷◌, ◌++◌, ℕ, suc, ◌+◌, ◌-◌, ◌*◌, ◌≤◌, ◌<◌, leb, ltb, eqb, length, get_or, take, drop, set, replicate}
+use Rattle.std.specs.Prelude.{◌≡◌, Option, Some, None, Bool, true, false, not, ◌&&◌, ◌||◌, List, [], ◌∷◌, ◌++◌, ℕ, suc, ◌+◌, ◌-◌, ◌*◌, ◌≤◌, ◌<◌, leb, ltb, eqb, length, get_or, take, drop, set, replicate}
 use Rattle.rules.specs.BoothTable.{Line, longest_period}
 use Rattle.rules.specs.ArrivalLog.{entry_at}
 use Rattle.rules.specs.Due.{due, playable_from}
 use Rattle.rules.specs.Opens.{opens_at}
 use Rattle.rules.specs.Moves.{Booth, nobody, first_task, settle, may_work, work}
 use Rattle.rules.specs.InRange.{Sound}
-use Rattle.arrivals.specs.Places.{waiting_at, Place}
+use Rattle.arrivals.specs.Places.{waiting_at, Place, WholeLog}
 use Rattle.laws.specs.Courses.{after_first}
 use Rattle.booth.specs.declared.Booth.{Booth as HeldBooth}
 use Rattle.booth.specs.declared.Asked.{Asked}
-use Rattle.booth.specs.declared.Chosen.{Chosen}
-use Rattle.booth.specs.declared.Chosen.TheVariants.{Task, Nothing}
 
 abbrev pub never : ℕ
 never = 4294967295
@@ -49,8 +47,8 @@ shown l bs h row =
     }
 
 -- a settled booth's answer: its first task with demand, if it may work
-unfoldable pub settled_answer : ℕ → Booth → Chosen
-settled_answer t b = elim (may_work t b) [ true ↦ Task (first_task 0 b.left) | false ↦ Nothing ]
+unfoldable pub settled_answer : ℕ → Booth → Option ℕ
+settled_answer t b = elim (may_work t b) [ true ↦ Some (first_task 0 b.left) | false ↦ None ]
 
 -- asked at t, a booth settles, and works if it then may
 unfoldable pub asked : ℕ → Booth → Booth
@@ -112,12 +110,43 @@ pub record Stays (h r : HeldBooth) : Type 0 where
   pub promise : r.promise ≡ h.promise
   pub tasks : r.tasks ≡ h.tasks
 
+-- the own ticks of a row from u on are as they were
+abbrev pub KeptFrom : ℕ → List ℕ → List ℕ → Type 0
+KeptFrom u before after = drop u after ≡ drop u before
+
+-- with every line of its promise, what a booth and its row show after a move is what the rules make of what they showed before
+abbrev pub ShownBy : (Booth → Booth) → List ℕ → HeldBooth → List ℕ → HeldBooth → List ℕ → Type 0
+ShownBy rule bs h before r after = (l : Line) → l.promise ≡ h.promise → shown l bs r after ≡ rule (shown l bs h before)
+
+-- what settling at t asks: t lies within a session, the row has t own ticks, and the clock is not past due(t)
+pub record ToSettle (bs : List ℕ) (t : ℕ) (h : HeldBooth) (row : List ℕ) : Type 0 where
+  pub log : WholeLog bs
+  pub fit : Fit bs h
+  pub early : t < 1000001
+  pub room : t ≤ length row
+  pub cap : h.clock.0 ≤ due h.promise t
+
 -- settled at t: its clock has not gone back and is not past due(t)
 pub record AfterSettle (bs : List ℕ) (t : ℕ) (h r : HeldBooth) : Type 0 where
   pub fit : Fit bs r
   pub stays : Stays h r
   pub grown : h.clock.0 ≤ r.clock.0
   pub cap : r.clock.0 ≤ due h.promise t
+
+-- settled at t, it shows what document 01's settle leaves, and no own tick is written from its clock on
+pub record Settled (bs : List ℕ) (t : ℕ) (h : HeldBooth) (before : List ℕ) (r : HeldBooth) (after : List ℕ) : Type 0 where
+  pub fit : AfterSettle bs t h r
+  pub state : ShownBy (settle t) bs h before r after
+  pub row : KeptFrom r.clock.0 before after
+
+-- what playing task k asks: it is the first with demand, the clock lies within the row, the row and the tick where the clock opens within a session
+pub record ToPlay (h : HeldBooth) (k : ℕ) (row : List ℕ) : Type 0 where
+  pub steady : Steady h
+  pub few : k < 8
+  pub first : k ≡ h.first
+  pub inside : h.clock.0 < length row
+  pub short : length row < 1000001
+  pub opens : h.opens.from.0 < 1000001
 
 -- worked: its clock has grown by 1, no demand has grown, and what waits is as it was, so it fits every log that it fitted
 pub record AfterPlay (h r : HeldBooth) : Type 0 where

@@ -12,12 +12,12 @@ ghost use Rattle.rules.specs.Values.{line_held};
 ghost use Rattle.rules.specs.InRange.{Sound};
 ghost use Rattle.rules.specs.Fit.{FitLine};
 ghost use Rattle.arrivals.specs.Places.{waiting_at, Place, WholeLog};
-ghost use Rattle.booth.specs.BoothHeld.{absent_booth, owed, shown, settled_answer, asked, takes_next, taken_next, goes_on, wakes_at, Found, Looked, Steady, Fit, Stays, AfterSettle, AfterPlay, AfterAsk, demanding, clock_at, played_on, lengthened};
+ghost use Rattle.booth.specs.BoothHeld.{absent_booth, owed, shown, settled_answer, asked, takes_next, taken_next, goes_on, wakes_at, Found, Looked, Steady, Fit, Stays, KeptFrom, ShownBy, ToSettle, Settled, ToPlay, AfterPlay, AfterAsk, demanding, clock_at, played_on, lengthened};
 
 use arrivals::FIRST_ENTRY;
 use rules::{ENTRY_BYTES, Line, NOBODY, Opens, OwnTick, Promise, TASKS_ALLOWED, WallTick};
 
-// The tick of an entry that never comes.
+// The tick of an entry that never comes. No Option: `wakes` answers a tick to compare with in any case, and `take_next` would take apart what `takes` has tested.
 const NEVER: u32 = 4294967295;
 // The first task of a booth without demand.
 const NO_TASK: usize = NOBODY as usize;
@@ -44,13 +44,6 @@ pub struct Booth {
     pub left: u32,
 }
 
-// What a settled booth answers.
-#[derive(Clone, Copy)]
-pub enum Chosen {
-    Task(usize),
-    Nothing,
-}
-
 // A booth that was asked at a wall tick, whether it worked, and the wall tick before which it need not be asked again.
 #[derive(Clone, Copy)]
 pub struct Asked {
@@ -64,25 +57,12 @@ fn next_of(log: &[u8], number: usize, from: usize) -> usize
     requires { Place log.now from }
     ensures { Found log.now number from result }
 {
-    let mut at = from;
-    while at < log.len() {
+    for at in (from..log.len()).step_by(ENTRY_BYTES) {
         if arrivals::entry_booth(log, at) == number {
             return at;
         }
-        at += ENTRY_BYTES;
     }
-    at
-}
-
-// Own ticks passed over are written 255.
-fn silence(part: &mut [u8])
-    ensures { part.new ≡ replicate (length part.old) 255 }
-{
-    let mut i = 0;
-    while i < part.len() {
-        part[i] = NOBODY;
-        i += 1;
-    }
+    log.len()
 }
 
 impl Booth {
@@ -125,15 +105,10 @@ impl Booth {
         let booth = Booth {
             number,
             tasks: line.tasks,
-            demand: [0; TASKS_ALLOWED],
-            first: NO_TASK,
-            left: 0,
             at: FIRST_ENTRY,
             promise,
-            clock: OwnTick(0),
             opens,
-            tick: WallTick(NEVER),
-            point: OwnTick(0),
+            ..Booth::absent()
         };
         booth.look(log, FIRST_ENTRY)
     }
@@ -198,7 +173,7 @@ impl Booth {
         self.demanding(all)
     }
 
-    // The own clock moves on to `to`, if it is not there yet.
+    // The own clock moves on to `to`, if it is not there yet; the own ticks passed over are written 255.
     fn pass(mut self, row: &mut [u8], to: OwnTick) -> Self
         requires clock_in_bounds { (self.clock.0 ≤ length row.old) × (to.0 ≤ length row.old) }
         requires allowance_nonzero { (0 < self.promise.allowance) × (self.opens ≡ opens_at self.promise self.clock.0) × (page.playable_from self.promise to.0 < 4294967296) }
@@ -210,7 +185,7 @@ impl Booth {
         if end <= from {
             return self;
         }
-        silence(&mut row[from..end]);
+        row[from..end].fill(NOBODY);
         self.clock = to;
         let promise = self.promise;
         self.opens = rules::opens_at(promise, to);
@@ -235,7 +210,7 @@ impl Booth {
         requires whole_log { WholeLog log.now × Fit log.now self × (self.at < length log.now) }
         requires clock_in_bounds { (self.clock.0 ≤ length row.old) × (self.point.0 ≤ length row.old) × (page.playable_from self.promise self.point.0 < 4294967296) }
         ensures fit { Fit log.now result × (self.at < result.at) × Stays self result }
-        ensures state { (l : PageLine) → l.promise ≡ self.promise → shown l log.now result row.new ≡ taken_next (shown l log.now self row.old) }
+        ensures state { ShownBy taken_next log.now self row.old result row.new }
         ensures row { row.new ≡ lengthened row.old self.clock.0 (replicate (self.point.0 - self.clock.0) 255) }
     {
         let at = self.at;
@@ -250,10 +225,8 @@ impl Booth {
 
     // Takes the entries that are to be added at t, then rests where no demand is left.
     fn catch_up(mut self, log: &[u8], row: &mut [u8], t: WallTick) -> Self
-        requires { WholeLog log.now × Fit log.now self × (t.0 < 1000001) × (t.0 ≤ length row.old) × (self.clock.0 ≤ page.due self.promise t.0) }
-        ensures fit { AfterSettle log.now t.0 self result }
-        ensures state { (l : PageLine) → l.promise ≡ self.promise → shown l log.now result row.new ≡ moves.settle t.0 (shown l log.now self row.old) }
-        ensures row { drop result.clock.0 row.new ≡ drop result.clock.0 row.old }
+        requires { ToSettle log.now t.0 self row.old }
+        ensures { Settled log.now t.0 self row.old result row.new }
     {
         while self.takes(t) {
             self = self.take_next(log, row);
@@ -268,10 +241,8 @@ impl Booth {
 
     // Settle at t. A booth with demand and no entry to add is settled as it is; most are, so nothing of it is written anew.
     pub fn settle(mut self, log: &[u8], row: &mut [u8], t: WallTick) -> Self
-        requires { WholeLog log.now × Fit log.now self × (t.0 < 1000001) × (t.0 ≤ length row.old) × (self.clock.0 ≤ page.due self.promise t.0) }
-        ensures fit { AfterSettle log.now t.0 self result }
-        ensures state { (l : PageLine) → l.promise ≡ self.promise → shown l log.now result row.new ≡ moves.settle t.0 (shown l log.now self row.old) }
-        ensures row { drop result.clock.0 row.new ≡ drop result.clock.0 row.old }
+        requires { ToSettle log.now t.0 self row.old }
+        ensures { Settled log.now t.0 self row.old result row.new }
     {
         if self.takes(t) {
             return self.catch_up(log, row, t);
@@ -282,19 +253,19 @@ impl Booth {
         self.catch_up(log, row, t)
     }
 
-    // A settled booth answers with a task to run at t, or with nothing.
-    fn choose(self, t: WallTick) -> Chosen
-        requires { Steady self × (t.0 < 1000001) }
+    // A settled booth answers with a task to run at t, or with none.
+    fn choose(self, t: WallTick) -> Option<usize>
+        requires { Steady self }
         ensures { (l : PageLine) (bs row : List ℕ) → l.promise ≡ self.promise → result ≡ settled_answer t.0 (shown l bs self row) }
     {
         let first = self.first;
         if first == NO_TASK {
-            return Chosen::Nothing;
+            return None;
         }
         if self.opens.from.0 <= t.0 {
-            Chosen::Task(first)
+            Some(first)
         } else {
-            Chosen::Nothing
+            None
         }
     }
 
@@ -319,7 +290,7 @@ impl Booth {
 
     // One tick of the first task is played: its number goes into the row at u, u grows by 1.
     pub fn play_on(mut self, row: &mut [u8], k: usize) -> Self
-        requires { Steady self × (k < 8) × (k ≡ self.first) × (self.clock.0 < length row.old) × (length row.old < 1000001) × (self.opens.from.0 < 1000001) }
+        requires { ToPlay self k row.old }
         ensures state { result ≡ played_on self }
         ensures row { row.new ≡ set row.old self.clock.0 self.first }
     {
@@ -336,10 +307,10 @@ impl Booth {
 
     // The booth works: its first task with demand loses 1, its number goes into the row at u, u grows by 1.
     fn play(mut self, row: &mut [u8], k: usize) -> Self
-        requires { Steady self × (k < 8) × (k ≡ self.first) × (self.clock.0 < length row.old) × (length row.old < 1000001) × (self.opens.from.0 < 1000001) }
+        requires { ToPlay self k row.old }
         ensures fit { AfterPlay self result }
         ensures state { (l : PageLine) (bs : List ℕ) → shown l bs result row.new ≡ moves.work (shown l bs self row.old) }
-        ensures row { drop result.clock.0 row.new ≡ drop result.clock.0 row.old }
+        ensures row { KeptFrom result.clock.0 row.old row.new }
     {
         self = self.play_on(row, k);
         if self.left == 0 {
@@ -365,12 +336,12 @@ impl Booth {
     pub fn ask(mut self, log: &[u8], row: &mut [u8], t: WallTick) -> Asked
         requires { WholeLog log.now × Fit log.now self × (t.0 < length row.old) × (length row.old < 1000001) × (self.clock.0 ≤ page.due self.promise t.0) }
         ensures fit { AfterAsk log.now t.0 self result }
-        ensures state { (l : PageLine) → l.promise ≡ self.promise → shown l log.now result.booth row.new ≡ asked t.0 (shown l log.now self row.old) }
+        ensures state { ShownBy (asked t.0) log.now self row.old result.booth row.new }
         ensures worked { (l : PageLine) → l.promise ≡ self.promise → result.worked ≡ moves.may_work t.0 (moves.settle t.0 (shown l log.now self row.old)) }
-        ensures row { drop result.booth.clock.0 row.new ≡ drop result.booth.clock.0 row.old }
+        ensures row { KeptFrom result.booth.clock.0 row.old row.new }
     {
         self = self.settle(log, &mut row[..], t);
-        let Chosen::Task(k) = self.choose(t) else {
+        let Some(k) = self.choose(t) else {
             let wakes = self.wakes();
             return Asked {
                 booth: self,

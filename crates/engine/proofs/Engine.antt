@@ -27,7 +27,7 @@ use Rattle.laws.proofs.Course.{nobody_works, sleeps, passed_over, plays, closes_
 use Rattle.arrivals.specs.Places.{waiting_at, WholeLog}
 use Rattle.booth.specs.declared.Asked.{Asked}
 use Rattle.booth.specs.declared.Booth.{Booth as HeldBooth}
-use Rattle.booth.specs.BoothHeld.{owed, AfterSettle, AfterAsk, goes_on, played_on, shown, asked, wakes_at, Fit}
+use Rattle.booth.specs.BoothHeld.{owed, ToSettle, AfterSettle, AfterAsk, goes_on, played_on, shown, asked, wakes_at, Fit}
 use Rattle.booth.proofs.Working.{asleep_until}
 use Rattle.booth.proofs.OneTurn.{played_clock, goes_on_asks, goes_on_after, goes_on_shown, goes_on_works}
 use Rattle.arrivals.specs.Places.{entries_of}
@@ -468,7 +468,7 @@ module _ {ls : List Line} {n H : ℕ} {bs wall₀ own₀ : List ℕ} {t i : ℕ}
       (take (i * H) own ++ (part ++ drop w (drop (i * H) own)))
   going_on_plays on played part is written =
       let asks = turn_asks g e less w q in
-      let inside = (goes_on_asks bs t singer part₀ asks.1 asks.2 asks.3 asks.4 on).3 in
+      let inside = (goes_on_asks bs t singer part₀ asks.1 asks.2 asks.3 asks.4 on).inside in
       going_plays g e less w q (record { booth = played; wakes = played.opens.from; worked = true }) part
       (subst (λ (x : HeldBooth). AfterAsk bs t singer (record { booth = x; wakes = x.opens.from; worked = true })) (sym is) (goes_on_after bs t singer part₀ asks.0 asks.1 asks.4 inside on))
       (λ l p. ap (λ x. shown l bs x part) is ∙ ap (shown l bs (played_on singer)) written ∙ goes_on_shown bs t singer part₀ asks.0 asks.1 asks.4 inside on l p)
@@ -512,16 +512,16 @@ module _ (n H : ℕ) (played : List HeldBooth) (bs own₁ : List ℕ) (i : ℕ) 
   last_part = length-take-le H (drop (i * H) own) (omega (arith, length-drop (i * H) own, row_inside i n H less, own_room))
 
   pub last_asks : (w : ℕ) → w ≡ H
-      → WholeLog bs × Fit bs (get_or hs i nowhere) × (H < 1000001) × (H ≤ length (take w (drop (i * H) own))) × ((get_or hs i nowhere).clock.0 ≤ due (get_or hs i nowhere).promise H)
+      → ToSettle bs H (get_or hs i nowhere) (take w (drop (i * H) own))
   last_asks w q =
       let alike = ending.alike.same i here in
-      let cap = (ending.closing.left i (omega arith) here).order.cap in (
-        e.set.log,
-        ending.alike.fit i here,
-        omega (arith, e.set.ticks),
-        omega (arith, ap (λ m. length (take m (drop (i * H) own))) q ∙ last_part),
-        subst (λ p. (get_or hs i nowhere).clock.0 ≤ due p H) alike.promise (omega (arith, alike.clock)),
-      )
+      let cap = (ending.closing.left i (omega arith) here).order.cap in record {
+        log = e.set.log;
+        fit = ending.alike.fit i here;
+        early = omega (arith, e.set.ticks);
+        room = omega (arith, ap (λ m. length (take m (drop (i * H) own))) q ∙ last_part);
+        cap = subst (λ p. (get_or hs i nowhere).clock.0 ≤ due p H) alike.promise (omega (arith, alike.clock));
+      }
 
   pub last_step : (w : ℕ) → w ≡ H → (h : HeldBooth) (part : List ℕ) → AfterSettle bs H (get_or hs i nowhere) h
       → ((l : Line) → l.promise ≡ (get_or hs i nowhere).promise → shown l bs h part ≡ settle H (shown l bs (get_or hs i nowhere) (take w (drop (i * H) own))))

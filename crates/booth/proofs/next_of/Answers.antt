@@ -1,33 +1,54 @@
 -- `booth::next_of` meets its contract: every entry passed is another booth's. Assumes nothing.
-use mathlib.Core.Path.{refl, sym, ◌∙◌}
+use mathlib.Core.Path.{◌≡◌, refl, sym, ◌∙◌, subst}
+use mathlib.Core.List.{List}
+use Prim.Native.Nat.{ℕ, ◌+◌, ◌≤◌}
 use native.Mathlib.Omega.{arith}
+use lib.ListN.{length}
+use Rattle.arrivals.specs.Places.{waiting_at, Place}
 use Rattle.arrivals.proofs.PlaceLaws.{whole_entry, waiting_other}
+use Rattle.booth.specs.BoothHeld.{Found}
 use Rattle.booth.proofs.next_of.Goals as goal
 
+-- no entry of the booth's stands before the log's end
+found_none : (bs : List ℕ) (number from at : ℕ) → Place bs at → from ≤ at → waiting_at bs number at ≡ waiting_at bs number from → length bs ≤ at → Found bs number from (length bs)
+found_none bs number from at place later same ends =
+    let e : at ≡ length bs = omega (arith, place.inside) in
+    subst (Found bs number from) e (record { place = place; later = later; same = same; here = λ h. absurd (omega arith) })
+
 pub loop-at-init : goal.loop-at-init
-loop-at-init c = (c.requires, omega arith, refl)
+loop-at-init c = record { place = c.requires; later = omega arith; same = refl }
 
 pub entry_booth-requires : goal.entry_booth-requires
-entry_booth-requires c = (whole_entry c.args.log.now c.loop-at.at c.loop-at.invariant.0 c.loop-at-test.true).0
+entry_booth-requires c = (whole_entry c.args.log.now c.loop-at.at c.loop-at.invariant.place c.loop-at-test.true).0
 
 pub returns-then-entry_booth-number : goal.returns-then-entry_booth-number
 returns-then-entry_booth-number c =
     let inv = c.loop-at.invariant in
-    record { place = inv.0; later = inv.1; same = inv.2; here = λ h. sym c.entry_booth.ensures ∙ c.if-entry_booth-number.true }
-
-pub overflow_add-at : goal.overflow_add-at
-overflow_add-at c = omega (arith, (whole_entry c.args.log.now c.loop-at.at c.loop-at.invariant.0 c.loop-at-test.true).0)
+    record { place = inv.place; later = inv.later; same = inv.same; here = λ h. sym c.entry_booth.ensures ∙ c.if-entry_booth-number.true }
 
 pub loop-at-preserved : goal.loop-at-preserved
 loop-at-preserved c =
     let bs = c.args.log.now in
     let at = c.loop-at.at in
     let inv = c.loop-at.invariant in
-    let inside = c.loop-at-test.true in (
-      (whole_entry bs at inv.0 inside).1,
-      omega arith,
-      sym (waiting_other bs c.args.number at inv.0 inside (λ e. c.if-entry_booth-number.false (c.entry_booth.ensures ∙ e))) ∙ inv.2,
-    )
+    let inside = c.loop-at-test.true in
+    record {
+      place = (whole_entry bs at inv.place inside).1;
+      later = omega arith;
+      same = sym (waiting_other bs c.args.number at inv.place inside (λ e. c.if-entry_booth-number.false (c.entry_booth.ensures ∙ e))) ∙ inv.same;
+    }
 
 pub returns : goal.returns
-returns c = record { place = c.loop-at.invariant.0; later = c.loop-at.invariant.1; same = c.loop-at.invariant.2; here = λ h. absurd (omega arith) }
+returns c =
+    let inv = c.loop-at.invariant in
+    found_none c.args.log.now c.args.number c.args.from c.loop-at.at inv.place inv.later inv.same (omega arith)
+
+pub returns-else-entry_booth-number : goal.returns-else-entry_booth-number
+returns-else-entry_booth-number c =
+    let bs = c.args.log.now in
+    let at = c.loop-at.at in
+    let inv = c.loop-at.invariant in
+    let inside = c.loop-at-test.true in
+    let next = whole_entry bs at inv.place inside in
+    let other = sym (waiting_other bs c.args.number at inv.place inside (λ e. c.if-entry_booth-number.false (c.entry_booth.ensures ∙ e))) in
+    found_none bs c.args.number c.args.from (at + 9) next.1 (omega (arith, inv.later)) (other ∙ inv.same) (omega arith)

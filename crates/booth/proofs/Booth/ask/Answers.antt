@@ -8,7 +8,7 @@ use Rattle.rules.specs.BoothTable.{Line}
 use Rattle.rules.specs.Due.{due}
 use Rattle.rules.specs.Moves.{settle, may_work, work}
 use Rattle.laws.proofs.DueLaws.{laws_of_due, due_step, due_at_most}
-use Rattle.booth.specs.declared.Chosen.TheVariants.{Task}
+use Rattle.std.specs.Prelude.{Some}
 use Rattle.booth.specs.BoothHeld.{shown, settled_answer, asked}
 use Rattle.booth.proofs.RowWritten.{agree_later}
 use Rattle.booth.proofs.OneTurn.{chosen_first, asked_rests, asked_works}
@@ -50,12 +50,19 @@ play-self-requires c =
     let p = c.args.self.promise in
     let s = c.settle-self in
     let l : Line = record { promise = s.result.promise; longest = [] } in
-    let told = sym (c.choose.ensures l c.args.log.now s.new.row refl) ∙ c.in-Task.is in
-    let first = chosen_first l c.args.log.now t s.result s.new.row c.in-Task.k s.ensures.fit.fit.steady refl told in
+    let told = sym (c.choose.ensures l c.args.log.now s.new.row refl) ∙ c.in-Some.is in
+    let first = chosen_first l c.args.log.now t s.result s.new.row c.in-Some.k s.ensures.fit.fit.steady refl told in
     let most = due_at_most p c.requires.1.steady.sound t in
     let steady = s.ensures.fit.fit.steady in
     let soon = (laws_of_due.playable s.result.promise steady.sound s.result.clock.0 t).0 first.2 in
-    (steady, first.0, first.1, omega (arith, s.ensures.fit.cap, most, s.auto.row), omega (arith, s.auto.row), omega (arith, soon, opens_from s.result steady))
+    record {
+      steady = steady;
+      few = first.0;
+      first = first.1;
+      inside = omega (arith, s.ensures.fit.cap, most, s.auto.row);
+      short = omega (arith, s.auto.row);
+      opens = omega (arith, soon, opens_from s.result steady);
+    }
 
 pub wakes-wakes-requires-2 : goal.wakes-wakes-requires-2
 wakes-wakes-requires-2 c = c.play-self.ensures.fit.steady
@@ -67,8 +74,8 @@ returns c =
     let p = c.args.self.promise in
     let s = c.settle-self in
     let row' = s.new.row in
-    let k = c.in-Task.k in
-    let told : (l : Line) → l.promise ≡ s.result.promise → settled_answer t (shown l bs s.result row') ≡ Task k = λ l q. sym (c.choose.ensures l bs row' q) ∙ c.in-Task.is in
+    let k = c.in-Some.k in
+    let told : (l : Line) → l.promise ≡ s.result.promise → settled_answer t (shown l bs s.result row') ≡ Some k = λ l q. sym (c.choose.ensures l bs row' q) ∙ c.in-Some.is in
     let settled : Line = record { promise = s.result.promise; longest = [] } in
     let first = chosen_first settled bs t s.result row' k s.ensures.fit.fit.steady refl (told settled refl) in
     let play = c.play-self in

@@ -12,7 +12,7 @@ use Rattle.booth.proofs.Settling.{near, settles_first, settles_on, due_fits, set
 use Rattle.booth.proofs.Booth.catch_up.Goals as goal
 
 pub loop-row-init : goal.loop-row-init
-loop-row-init c = settles_first c.args.log.now c.args.t.0 c.args.self c.args.row.now c.requires.1 c.requires.4
+loop-row-init c = settles_first c.args.log.now c.args.t.0 c.args.self c.args.row.now c.requires.fit c.requires.cap
 
 pub take_next-self-requires : goal.take_next-self-requires
 take_next-self-requires c =
@@ -21,13 +21,13 @@ take_next-self-requires c =
     let h = c.loop-row.self in
     let row = c.loop-row.row in
     let s = c.loop-row.invariant in
-    let fits = due_fits bs t c.args.self c.args.row.now h row s c.requires.3 in
+    let fits = due_fits bs t c.args.self c.args.row.now h row s c.requires.room in
     let test = sym c.takes.ensures ∙ c.loop-row-test.true in
-    let more = takes_inside bs h row t s.fit c.requires.2 test in
+    let more = takes_inside bs h row t s.fit c.requires.early test in
     let due-by = point_due bs h row t s.fit more test in
     record {
-      whole_log = (c.requires.0, s.fit, more);
-      clock_in_bounds = (fits.0, omega (arith, fits.1, due-by), near h.promise h.point.0 t s.fit.steady.sound s.fit.steady.short c.requires.2 due-by);
+      whole_log = (c.requires.log, s.fit, more);
+      clock_in_bounds = (fits.0, omega (arith, fits.1, due-by), near h.promise h.point.0 t s.fit.steady.sound s.fit.steady.short c.requires.early due-by);
     }
 
 pub loop-row-smaller : goal.loop-row-smaller
@@ -37,9 +37,9 @@ loop-row-smaller c =
     let h = c.loop-row.self in
     let row = c.loop-row.row in
     let s = c.loop-row.invariant in
-    let fits = due_fits bs t c.args.self c.args.row.now h row s c.requires.3 in
+    let fits = due_fits bs t c.args.self c.args.row.now h row s c.requires.room in
     let test = sym c.takes.ensures ∙ c.loop-row-test.true in
-    omega (arith, takes_inside bs h row t s.fit c.requires.2 test, c.take_next-self.ensures.fit)
+    omega (arith, takes_inside bs h row t s.fit c.requires.early test, c.take_next-self.ensures.fit)
 
 pub loop-row-preserved : goal.loop-row-preserved
 loop-row-preserved c =
@@ -48,9 +48,9 @@ loop-row-preserved c =
     let h = c.loop-row.self in
     let row = c.loop-row.row in
     let s = c.loop-row.invariant in
-    let fits = due_fits bs t c.args.self c.args.row.now h row s c.requires.3 in
+    let fits = due_fits bs t c.args.self c.args.row.now h row s c.requires.room in
     let test = sym c.takes.ensures ∙ c.loop-row-test.true in
-    let more = takes_inside bs h row t s.fit c.requires.2 test in
+    let more = takes_inside bs h row t s.fit c.requires.early test in
     let next = c.take_next-self in
     settles_on bs t c.args.self c.args.row.now h row s fits.0 more test next.result next.new.row next.ensures.fit.0 next.ensures.fit.2
     next.ensures.state next.ensures.row next.auto.row
@@ -65,12 +65,12 @@ pass-self-requires c =
     let h = c.loop-row.self in
     let row = c.loop-row.row in
     let s = c.loop-row.invariant in
-    let fits = due_fits bs t c.args.self c.args.row.now h row s c.requires.3 in
+    let fits = due_fits bs t c.args.self c.args.row.now h row s c.requires.room in
     let test = sym c.takes.ensures ∙ c.loop-row-test.false in
     let steady = s.fit.steady in
     record {
       clock_in_bounds = (fits.0, omega (arith, fits.1, c.due-to.ensures));
-      allowance_nonzero = (steady.sound.allowance, steady.opens, near h.promise c.due-to.result.0 t steady.sound steady.short c.requires.2 (omega (arith, c.due-to.ensures)));
+      allowance_nonzero = (steady.sound.allowance, steady.opens, near h.promise c.due-to.result.0 t steady.sound steady.short c.requires.early (omega (arith, c.due-to.ensures)));
     }
 
 pub returns-then-self-eq-NO_TASK : goal.returns-then-self-eq-NO_TASK
@@ -81,7 +81,7 @@ returns-then-self-eq-NO_TASK c =
     let h = c.loop-row.self in
     let row = c.loop-row.row in
     let s = c.loop-row.invariant in
-    let fits = due_fits bs t c.args.self c.args.row.now h row s c.requires.3 in
+    let fits = due_fits bs t c.args.self c.args.row.now h row s c.requires.room in
     let test = sym c.takes.ensures ∙ c.loop-row-test.false in
     let pass = c.pass-self in
     let v = c.due-to.result.0 in
@@ -101,7 +101,7 @@ returns-then-self-eq-NO_TASK c =
       state = λ l q.
           ap (λ (x : Booth). shown l bs x pass.new.row) pass.ensures.state
           ∙ ap (shown l bs (clock_at h (h.clock.0 + (v - h.clock.0)))) pass.ensures.row
-          ∙ settled_free bs t c.args.self c.args.row.now h row s fits.0 c.requires.0 c.requires.1 c.requires.4 test l q c.if-self-eq-NO_TASK.true v point;
+          ∙ settled_free bs t c.args.self c.args.row.now h row s fits.0 c.requires.log c.requires.fit c.requires.cap test l q c.if-self-eq-NO_TASK.true v point;
       row = ap (λ u. drop u pass.new.row) clock
           ∙ ap (drop (h.clock.0 + (v - h.clock.0))) pass.ensures.row
           ∙ behind_moved bs t c.args.self c.args.row.now h row s fits.0 v
@@ -115,9 +115,9 @@ returns-else-self-eq-NO_TASK c =
     let h = c.loop-row.self in
     let row = c.loop-row.row in
     let s = c.loop-row.invariant in
-    let fits = due_fits bs t c.args.self c.args.row.now h row s c.requires.3 in
+    let fits = due_fits bs t c.args.self c.args.row.now h row s c.requires.room in
     let test = sym c.takes.ensures ∙ c.loop-row-test.false in record {
       fit = record { fit = s.fit; stays = s.stays; grown = s.grown; cap = subst (λ (p : Promise). h.clock.0 ≤ due p t) s.stays.promise s.cap };
-      state = λ l q. settled_busy bs t c.args.self c.args.row.now h row s fits.0 c.requires.0 c.requires.1 c.requires.4 test l q c.if-self-eq-NO_TASK.false;
+      state = λ l q. settled_busy bs t c.args.self c.args.row.now h row s fits.0 c.requires.log c.requires.fit c.requires.cap test l q c.if-self-eq-NO_TASK.false;
       row = s.behind;
     }

@@ -39,5 +39,5 @@ returns c =
     let row = c.args.row.now in
     let there : u + (v - u) ≡ v = omega (arith, c.if-end-from.false) in record {
       state = ap (λ o. record { number = h.number; tasks = h.tasks; demand = h.demand; first = h.first; left = h.left; at = h.at; promise = h.promise; clock = record { 0 = v }; opens = o; tick = h.tick; point = h.point }) c.opens_at-self.ensures ∙ ap (clock_at h) (sym there);
-      row = part_silenced row u (v - u) _ (c.silence.ensures ∙ ap (λ n. replicate n 255) (mid_len u v row c.requires.clock_in_bounds.1));
+      row = part_silenced row u (v - u) _ (c.fill.ensures.after (λ y e. e) ∙ ap (λ n. replicate n 255) (mid_len u v row c.requires.clock_in_bounds.1));
     }

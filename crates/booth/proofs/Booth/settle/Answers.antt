@@ -10,10 +10,10 @@ returns-then-self-ne-NO_TASK c =
     let t = c.args.t.0 in
     let h = c.args.self in
     let row = c.args.row.now in
-    let s = settles_first bs t h row c.requires.1 c.requires.4 in
-    let fits = due_fits bs t h row h row s c.requires.3 in
+    let s = settles_first bs t h row c.requires.fit c.requires.cap in
+    let fits = due_fits bs t h row h row s c.requires.room in
     let test = sym c.takes.ensures ∙ c.if-takes.false in record {
-      fit = record { fit = s.fit; stays = s.stays; grown = omega arith; cap = c.requires.4 };
-      state = λ l q. settled_busy bs t h row h row s fits.0 c.requires.0 c.requires.1 c.requires.4 test l q c.if-self-ne-NO_TASK.true;
+      fit = record { fit = s.fit; stays = s.stays; grown = omega arith; cap = c.requires.cap };
+      state = λ l q. settled_busy bs t h row h row s fits.0 c.requires.log c.requires.fit c.requires.cap test l q c.if-self-ne-NO_TASK.true;
       row = refl;
     }
