@@ -6,8 +6,8 @@ use native.Mathlib.Nat.{zero-add}
 use native.Mathlib.Omega.{arith}
 use lib.ListN.{length, get_or, take, length-map}
 use Rattle.rules.specs.declared.Table.{Table}
-use Rattle.rules.specs.Verdicts.{Nothing, accepted, Verdict}
-use Rattle.base.specs.Refusals.{refusal, taken}
+use Rattle.rules.specs.Verdicts.{accepted, Verdict, verdict_in}
+use Rattle.base.specs.Refusals.{taken}
 use Rattle.rules.specs.BoothTable.{Line, no_line}
 use Rattle.rules.specs.ArrivalLog.{Log, read_log}
 use Rattle.rules.specs.Moves.{Booth, nobody}
@@ -21,11 +21,11 @@ use Rattle.booth.specs.declared.Booth.{Booth as HeldBooth}
 use Rattle.rules.specs.Admission.{read_table}
 use Rattle.rules.proofs.Held.{zeros}
 use Rattle.files.specs.declared.Files.{Files}
-use Rattle.files.specs.Told.{FilesTaken}
+use Rattle.files.specs.FilesTaken.{FilesTaken}
 use Rattle.rules.proofs.TwoFiles.{read_in_turn}
 use Rattle.laws.specs.Statements.{Accepted as Session}
 use Rattle.laws.proofs.Answered.{answers, as_read as read_as}
-use Rattle.session.specs.SessionAnswered.{nothing_answered, answered}
+use Rattle.session.specs.SessionAnswered.{answered}
 use Rattle.session.proofs.ByCases.{plays}
 use Rattle.session.specs.declared.SessionAnswer.{SessionAnswer}
 use Rattle.engine.specs.declared.Stage.{Stage}
@@ -33,10 +33,10 @@ use Rattle.arrivals.specs.Places.{entries_of, log_of}
 use Rattle.engine.specs.Running.{nowhere, Same, Alike, Running, OpenedTo, Ready, Through, Ending, Ended, Playable}
 use Rattle.engine.proofs.Engine.{shown_same, clocks_are, worked_are}
 
--- an accepted answer with these figures
+-- an answer with these figures
 abbrev pub made : ℕ → ℕ → List ℕ → List ℕ → ℕ → SessionAnswer
 made H n clocks worked idle =
-    record { verdict = record { refused = Nothing; refusal = record { number = 0; place = 0 } }; horizon = H; booths = n; clocks = clocks; worked = worked; idle = idle }
+    record { horizon = H; booths = n; clocks = clocks; worked = worked; idle = idle }
 
 made_same : {n m : ℕ} {c d w v : List ℕ} {i j : ℕ} (H : ℕ) → n ≡ m → c ≡ d → w ≡ v → i ≡ j → made H n c w i ≡ made H m d v j
 made_same {n} {m} {c} {d} {w} {v} {i} {j} H p q r s =
@@ -141,7 +141,7 @@ module _ (table : Table) (bs wall own : List ℕ) (H : ℕ) (p : Playable table 
           sym (length-map (settled_at H (lines_held table) (entries_of bs)).booths (λ b. b.u) ∙ length_booths (lines_held table) (entries_of bs) H ∙ lines_in table p.opening.fit)
 
       pub answer_is : made H table.booths clocks s.worked s.idle ≡ answered (played (lines_held table) (log_of H bs) wall own)
-      unfolding answered played log_of accepted refusal
+      unfolding answered played log_of
       answer_is = made_same H booths_is clocks_is worked_is idle_is
 
       pub wall_is : wall₁ ≡ (played (lines_held table) (log_of H bs) wall own).wall
@@ -154,9 +154,10 @@ module _ (table : Table) (bs wall own : List ℕ) (H : ℕ) (p : Playable table 
 
 -- ---- the session's own answer
 
-pub refused_all : (o : Outcome) (v : Verdict) (wall own : List ℕ) (a : SessionAnswer) → o ≡ nothing_done v wall own → a ≡ nothing_answered v → (a ≡ answered o) × ((wall ≡ o.wall) × (own ≡ o.own))
-unfolding answered nothing_answered nothing_done
-refused_all o v wall own a e is = (is ∙ sym (ap answered e), (sym (ap (λ x. x.wall) e), sym (ap (λ x. x.own) e)))
+-- a refusal: its verdict, and no lent byte changed
+pub refused_all : (o : Outcome) (v : Verdict) (wall own : List ℕ) → o ≡ nothing_done v wall own → (v ≡ o.verdict) × ((wall ≡ o.wall) × (own ≡ o.own))
+unfolding nothing_done
+refused_all o v wall own e = (sym (ap (λ x. x.verdict) e), (sym (ap (λ x. x.wall) e), sym (ap (λ x. x.own) e)))
 
 module _ (table_bytes log_bytes wall own : List ℕ) (f : Files) (k : FilesTaken table_bytes log_bytes f) where
   abbrev H : ℕ

@@ -1,6 +1,5 @@
--- How the code answers what the rules say of a session: a number for each booth, in arrays of eight, and 0 where the table has no booth.
-use Rattle.std.specs.Prelude.{[], length}
-use Rattle.rules.specs.Verdicts.{Verdict}
+-- How the code answers what the rules say of a session that is played: a number for each booth, in arrays of eight, and 0 where the table has no booth.
+use Rattle.std.specs.Prelude.{length}
 use Rattle.rules.specs.BoothTable.{booths_allowed}
 use Rattle.rules.specs.Session.{Outcome}
 use Rattle.rules.specs.Values.{padded}
@@ -9,14 +8,9 @@ use Rattle.session.specs.declared.SessionAnswer.{SessionAnswer}
 unfoldable pub answered : Outcome → SessionAnswer
 answered o =
     record {
-      verdict = o.verdict;
       horizon = o.ticks;
       booths = length o.clocks;
       clocks = padded booths_allowed 0 o.clocks;
       worked = padded booths_allowed 0 o.worked;
       idle = o.idle;
     }
-
--- a refusal: every count is 0
-unfoldable pub nothing_answered : Verdict → SessionAnswer
-nothing_answered v = record { verdict = v; horizon = 0; booths = 0; clocks = padded booths_allowed 0 []; worked = padded booths_allowed 0 []; idle = 0 }

@@ -1,21 +1,22 @@
 // A session: the files, then the buffers, then the plain engine, and what is answered.
 #![tactic(auto)]
 
-ghost use Rattle.std.specs.Prelude.{◌≡◌, ◌+◌, ◌*◌, ◌≤◌, ◌<◌, length};
+ghost use Rattle.std.specs.Prelude.{◌≡◌, ◌+◌, ◌*◌, ◌≤◌, ◌<◌, length, IfOk};
 ghost use Rattle.rules.specs.Session as page;
 ghost use Rattle.rules.specs.Values.{lines_held};
+ghost use Rattle.rules.specs.Verdicts.{verdict_in};
 ghost use Rattle.session.specs.SessionAnswered as said;
 ghost use Rattle.arrivals.specs.Places.{log_of};
 ghost use Rattle.engine.specs.Running.{Clocks, Playable};
 
-use base::Refusal;
+use base::Reason;
 use booth::Booth;
-use rules::{BOOTHS_ALLOWED, Refused, Table, Verdict};
+use rules::{BOOTHS_ALLOWED, Refused, Table};
 
-// What a session answers: the verdict and the wall ticks played, then for each booth its final own clock and its worked ticks, and the idle ticks.
+// What a session that is played answers: its wall ticks, then for each booth its final own clock and its worked ticks, and the idle ticks.
+// Two arrays, as the drivers' C struct has them.
 #[derive(Clone, Copy)]
 pub struct SessionAnswer {
-    pub verdict: Verdict,
     pub horizon: u32,
     pub booths: usize,
     pub clocks: [u32; BOOTHS_ALLOWED],
@@ -51,13 +52,6 @@ fn play_all(table: Table, log: &[u8], wall: &mut [u8], own: &mut [u8], h: usize)
     let worked = stage.worked;
     let horizon = h as u32;
     SessionAnswer {
-        verdict: Verdict {
-            refused: Refused::Nothing,
-            refusal: Refusal {
-                number: 0,
-                place: 0,
-            },
-        },
         horizon,
         booths: n,
         clocks,
@@ -66,46 +60,25 @@ fn play_all(table: Table, log: &[u8], wall: &mut [u8], own: &mut [u8], h: usize)
     }
 }
 
-// Nothing is done, and every count is 0.
-fn nothing_done(verdict: Verdict) -> SessionAnswer
-    ensures { result ≡ said.nothing_answered verdict }
-{
-    SessionAnswer {
-        verdict,
-        horizon: 0,
-        booths: 0,
-        clocks: [0; BOOTHS_ALLOWED],
-        worked: [0; BOOTHS_ALLOWED],
-        idle: 0,
-    }
-}
-
 // The session on any bytes as table and log, with any lent records.
-pub fn session(table: &[u8], log: &[u8], wall: &mut [u8], own: &mut [u8]) -> SessionAnswer
-    ensures answer { result ≡ said.answered (page.session table.now log.now wall.old own.old) }
+pub fn session(
+    table: &[u8],
+    log: &[u8],
+    wall: &mut [u8],
+    own: &mut [u8],
+) -> Result<SessionAnswer, Refused>
+    ensures verdict { verdict_in result ≡ (page.session table.now log.now wall.old own.old).verdict }
+    ensures answer { IfOk result (λ answer. answer ≡ said.answered (page.session table.now log.now wall.old own.old)) }
     ensures wall { wall.new ≡ (page.session table.now log.now wall.old own.old).wall }
     ensures own { own.new ≡ (page.session table.now log.now wall.old own.old).own }
 {
-    let files = files::read_files(table, log);
-    let verdict = files.verdict;
-    let refusal = verdict.refusal;
-    if refusal.number != 0 {
-        return nothing_done(verdict);
-    }
-    let lines = files.table;
+    let files = files::read_files(table, log)?;
     let h = files.horizon as usize;
-    let unfit = Verdict {
-        refused: Refused::TheCall,
-        refusal: Refusal {
-            number: base::DOES_NOT_FIT,
-            place: 0,
-        },
-    };
     if wall.len() < h {
-        return nothing_done(unfit);
+        return Err(Refused::Call(Reason::DoesNotFit.at(0)));
     }
-    if own.len() < lines.booths * h {
-        return nothing_done(unfit);
+    if own.len() < files.table.booths * h {
+        return Err(Refused::Call(Reason::DoesNotFit.at(0)));
     }
-    play_all(lines, log, wall, own, h)
+    Ok(play_all(files.table, log, wall, own, h))
 }
