@@ -8,6 +8,6 @@ pub returns-then-byte-lt-NO_BOOTH : goal.returns-then-byte-lt-NO_BOOTH
 unfolding page.letter
 returns-then-byte-lt-NO_BOOTH c = sym (rw (lt-ltb c.args.byte 8 c.if-byte-lt-NO_BOOTH.true, page.letter))
 
-pub returns : goal.returns
+pub returns-else-byte-lt-NO_BOOTH : goal.returns-else-byte-lt-NO_BOOTH
 unfolding page.letter
-returns c = sym (rw (le-ltb c.args.byte 8 c.if-byte-lt-NO_BOOTH.false, page.letter))
+returns-else-byte-lt-NO_BOOTH c = sym (rw (le-ltb c.args.byte 8 c.if-byte-lt-NO_BOOTH.false, page.letter))
