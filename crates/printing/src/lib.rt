@@ -12,6 +12,7 @@ use rules::BOOTHS_ALLOWED;
 // Booths and tasks are below it.
 const NO_BOOTH: u8 = BOOTHS_ALLOWED as u8;
 
+#[tactic(auto, unfolding(rules::specs::Desk::letter))]
 fn letter(byte: u8) -> u8
     ensures { result ≡ page.letter byte }
 {
@@ -70,6 +71,7 @@ impl<'a> Paper<'a> {
     }
 
     // The decimal digits of n.
+    #[tactic(auto, using(crate::proofs::Digits::decimal_is))]
     fn put_number(&mut self, n: usize)
         requires { HasRoom most_digits self.old }
         ensures { Printed (page.decimal n) self.old self.new }

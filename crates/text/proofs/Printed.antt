@@ -56,10 +56,6 @@ in_two_files input h = rw (le-ltb page.most_input (length input) h, page.desk_te
 
 -- ---- the buffer
 
-pub buffer_short : (input lent : List ℕ) → length lent < text_room → (0 ≡ text_length input lent) × (lent ≡ with_text input lent)
-unfolding text_length with_text
-buffer_short input lent h = (sym (rw (lt-ltb (length lent) text_room h, text_length)), sym (rw (lt-ltb (length lent) text_room h, with_text)))
-
 -- a text on a paper over the whole buffer that was lent
 module _ (input lent : List ℕ) (p q : Paper) (room : text_room ≤ length lent) (start : p.at ≡ 0) (over : p.out.now ≡ lent) (text : Printed (page.desk_text input) p q) where
   pub text_counted : length (take q.at q.out.now) ≡ text_length input lent

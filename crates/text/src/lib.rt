@@ -19,6 +19,7 @@ const MOST_TICKS: usize = 2000;
 pub const TEXT_ROOM: usize = 18710;
 
 // A line for each booth, with its row as it is handed back.
+#[tactic(auto, using(printing::proofs::Pieces::printed_nothing), unfolding(rules::specs::Desk::booth_lines))]
 fn booth_lines(paper: &mut Paper, answer: SessionAnswer, own: &[u8], h: usize)
     requires { (answer.booths ≤ 8) × (h ≤ page.most_ticks) × HasRoom (answer.booths * booth_line_room) paper.old }
     ensures { Printed (page.booth_lines answer.booths h answer.clocks answer.worked own.now) paper.old paper.new }
@@ -63,6 +64,7 @@ fn session_text(paper: &mut Paper, table: &[u8], log: &[u8])
 }
 
 // The table ends where its N says, or where the input ends.
+#[tactic(auto, unfolding(rules::specs::Desk::table_end, rules::specs::FileHead::head_n))]
 fn table_end(input: &[u8]) -> usize
     ensures { (result ≡ page.table_end input.now) × (result ≤ length input.now) }
 {
@@ -74,6 +76,7 @@ fn table_end(input: &[u8]) -> usize
     end.min(all)
 }
 
+#[tactic(auto, using(crate::proofs::Printed::too_long, crate::proofs::Printed::in_two_files), unfolding(base::specs::Refusals::refusal))]
 fn input_text(paper: &mut Paper, input: &[u8])
     requires { HasRoom text_room paper.old }
     ensures { Printed (page.desk_text input.now) paper.old paper.new }
@@ -90,6 +93,7 @@ fn input_text(paper: &mut Paper, input: &[u8])
 }
 
 // What the desk prints for any input, at the start of a buffer of at least 18,710 bytes; how many bytes there are of it.
+#[tactic(auto, using(crate::proofs::Printed::text_counted, crate::proofs::Printed::text_held), unfolding(crate::specs::TextAnswered::text_length, crate::specs::TextAnswered::with_text))]
 pub fn desk_text(input: &[u8], out: &mut [u8]) -> usize
     ensures length { result ≡ text_length input.now out.old }
     ensures text { out.new ≡ with_text input.now out.old }

@@ -5,13 +5,9 @@ use Prim.Native.Nat.{◌≤◌}
 use lib.ListN.{length, get_or}
 use Rattle.rules.specs.Desk as page
 use Rattle.printing.specs.Printed.{Printed}
-use Rattle.printing.proofs.Pieces.{printed_nothing, printed_then}
+use Rattle.printing.proofs.Pieces.{printed_then}
 use Rattle.text.proofs.BoothLines.{row_short, booth_lines_length, booth_lines_more}
 use Rattle.text.proofs.booth_lines.Goals as goal
-
-pub loop-booth-init : goal.loop-booth-init
-unfolding page.booth_lines
-loop-booth-init c = printed_nothing c.args.paper.now
 
 pub booth_line-requires : goal.booth_line-requires
 booth_line-requires c =
