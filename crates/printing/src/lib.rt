@@ -20,6 +20,7 @@ fn letter(byte: u8) -> u8
 }
 
 // A lent buffer with what is printed so far, and where the next piece goes.
+// Its pieces are put one by one: `write!` may answer an error, and no clause of it says that it has none where there is room.
 #[derive(Drop)]
 pub struct Paper<'a> {
     out: &'a mut [u8],
@@ -64,6 +65,7 @@ impl<'a> Paper<'a> {
         let end = self.at + kept.len();
         let part = &mut self.out[self.at..end];
         part.copy_from_slice(kept);
+        // Over a `zip` of `part.iter_mut()` with `kept` nothing is known of what `part` holds in the end.
         for byte in part.iter_mut() {
             *byte = letter(*byte);
         }

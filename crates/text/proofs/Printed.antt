@@ -1,14 +1,13 @@
 -- The text of a session case by case, from its arrays, its input and the buffer lent. Assumes nothing.
 use mathlib.Core.Path.{◌≡◌, refl, sym, ap, ◌∙◌}
 use mathlib.Core.List.{List, [], ◌∷◌, ◌++◌}
-use Prim.Native.Nat.{ℕ, zero, suc, ◌*◌, ◌-◌, ◌≤◌, ◌<◌}
+use Prim.Native.Nat.{ℕ, zero, suc, ◌*◌, ◌-◌, ◌≤◌}
 use native.Mathlib.Omega.{arith}
-use lib.ListN.{length, get_or, take, drop, replicate, length-take, length-replicate}
-use borrow.Author.Tests.{lt-ltb, le-ltb}
+use lib.ListN.{length, get_or, take, replicate, length-take, length-replicate}
+use borrow.Author.Tests.{le-ltb}
 use Rattle.rules.specs.declared.Refused.{Refused}
 use Rattle.rules.specs.declared.Refused.TheVariants.{Nothing, TheTable, TheLog, TheCall}
 use Rattle.base.specs.Bytes.{written}
-use Rattle.base.specs.Refusals.{refusal}
 use Rattle.rules.specs.BoothTable.{booths_allowed}
 use Rattle.rules.specs.Session.{Outcome, session}
 use Rattle.rules.specs.RowBack.{row_back}
@@ -43,16 +42,6 @@ answer_prints o =
     let H = o.ticks in
     ap (λ l. page.number_line page.word_admitted (length o.clocks) ++ (page.record_line page.word_wall (take H o.wall) ++ (l ++ page.number_line page.word_idle o.idle)))
     (lines_held_lem (length o.clocks) H o.clocks o.worked o.own)
-
--- ---- the input
-
-pub too_long : (input : List ℕ) → page.most_input < length input → page.desk_text input ≡ page.refused_line page.word_input (refusal 12 page.most_input)
-unfolding page.desk_text
-too_long input h = rw (lt-ltb page.most_input (length input) h, page.desk_text)
-
-pub in_two_files : (input : List ℕ) → length input ≤ page.most_input → page.desk_text input ≡ page.session_text (take (page.table_end input) input) (drop (page.table_end input) input)
-unfolding page.desk_text
-in_two_files input h = rw (le-ltb page.most_input (length input) h, page.desk_text)
 
 -- ---- the buffer
 

@@ -76,7 +76,7 @@ fn table_end(input: &[u8]) -> usize
     end.min(all)
 }
 
-#[tactic(auto, using(crate::proofs::Printed::too_long, crate::proofs::Printed::in_two_files), unfolding(base::specs::Refusals::refusal))]
+#[tactic(auto, unfolding(rules::specs::Desk::desk_text, base::specs::Refusals::refusal))]
 fn input_text(paper: &mut Paper, input: &[u8])
     requires { HasRoom text_room paper.old }
     ensures { Printed (page.desk_text input.now) paper.old paper.new }
