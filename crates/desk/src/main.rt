@@ -15,6 +15,7 @@ fn read_full<R: Read>(reader: &mut R, buffer: &mut [u8]) -> io::Result<usize>
     ensures full { IfOk result (λ n. n < length buffer.new → IsAtEnd (R.remaining reader.new)) }
 {
     let mut done = 0;
+    // No method of the library does it: `read_exact` fails at a short end, `read_to_end` needs a heap, `bytes` reads one byte a call.
     while done < buffer.len() {
         let n = reader.read(&mut buffer[done..])?;
         if n == 0 {

@@ -1,31 +1,25 @@
--- The digits of a number, one case at a time, and how many there may be. Assumes nothing.
-use mathlib.Core.Path.{◌≡◌, refl, ap}
+-- The digits of a number, as the library prints them, and how many there may be. Assumes nothing.
+use mathlib.Core.Path.{◌≡◌, refl, sym}
 use mathlib.Core.Bool.{Bool, true, false}
-use mathlib.Core.List.{List, [], ◌∷◌, ◌++◌}
-use Prim.Native.Nat.{ℕ, zero, suc, ◌+◌, ◌-◌, ◌/◌, ◌%◌, ◌≤◌, ◌<◌}
+use mathlib.Core.List.{List, [], ◌∷◌}
+use Prim.Native.Nat.{ℕ, zero, suc, ◌+◌, ◌/◌, ◌%◌, ◌≤◌, ◌<◌, ◌^◌}
 use native.Mathlib.Omega.{arith}
 use lib.Dec.{ltb}
 use lib.ListN.{length, length-append}
 use borrow.Author.Tests.{lt-ltb, le-ltb}
+use Rattle.std.proofs.lemmas.Fmt.{AppendsLastDigit, decimal_from_appends, length-decimal-le}
+use Rattle.std.specs.Fmt as library
 use Rattle.rules.specs.Desk.{digits, decimal, labelled}
-use Rattle.printing.specs.Put.{Put}
 use Rattle.printing.specs.Room.{most_digits}
 
-pub no_digits : (most n : ℕ) → most ≡ 0 → digits most n ≡ []
+-- the library prints the last digit last too
+appends_last : AppendsLastDigit digits
 unfolding digits
-no_digits most n e = ap (λ m. digits m n) e
-
-pub one_digit : (most n : ℕ) → 0 < most → n < 10 → digits most n ≡ (48 + n) ∷ []
-unfolding digits
-one_digit zero n h l = absurd (omega (arith, h))
-one_digit (suc most) n h l = rw (lt-ltb n 10 l, digits)
-
-pub more_digits : (most n : ℕ) → 0 < most → 10 ≤ n → digits most n ≡ digits (most - 1) (n / 10) ++ ((48 + n % 10) ∷ [])
-unfolding digits
-more_digits zero n h l = absurd (omega (arith, h))
-more_digits (suc most) n h l =
-    let one_less : most ≡ suc most - 1 = omega arith in
-    rw (le-ltb n 10 l, digits) (ap (λ m. digits m (n / 10) ++ ((48 + n % 10) ∷ [])) one_less)
+appends_last =
+    record {
+      one = λ k n h. rw (lt-ltb n 10 h, digits);
+      more = λ k n h. rw (le-ltb n 10 h, digits);
+    }
 
 pub few_digits : (most n : ℕ) → length (digits most n) ≤ most
 unfolding digits
@@ -40,6 +34,7 @@ pub labelled_length : (word : List ℕ) (n : ℕ) → length (labelled word n) �
 unfolding labelled decimal
 labelled_length word n = omega (arith, length-append word (digits most_digits n), few_digits most_digits n)
 
--- where the piece behind a word and its number goes
-pub labelled_ends : (word : List ℕ) (n : ℕ) {at m : ℕ} {a b : List ℕ} → Put at (labelled word n) a b m → m ≤ at + length word + most_digits
-labelled_ends word n p = omega (arith, p.behind, labelled_length word n)
+-- a number as the library prints it
+pub decimal_is : (n : ℕ) → n < 2 ^ 64 → library.decimal n ≡ decimal n
+unfolding decimal
+decimal_is n h = sym (decimal_from_appends digits appends_last most_digits n h (length-decimal-le most_digits n (omega arith) (omega arith) h))

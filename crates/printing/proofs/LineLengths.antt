@@ -1,11 +1,10 @@
--- How long a line may be, and where the piece behind it goes. Assumes nothing.
+-- How long a line may be. Assumes nothing.
 use mathlib.Core.Path.{◌≡◌}
 use mathlib.Core.List.{List, ◌++◌, map}
 use Prim.Native.Nat.{ℕ, ◌+◌, ◌≤◌}
 use native.Mathlib.Omega.{arith}
 use lib.ListN.{length, length-append, length-map}
 use Rattle.rules.specs.Desk as page
-use Rattle.printing.specs.Put.{Put}
 use Rattle.printing.specs.Room.{most_digits}
 use Rattle.printing.proofs.Digits.{labelled_length}
 
@@ -17,9 +16,3 @@ pub record_line_length : (word bytes : List ℕ) → length (page.record_line wo
 unfolding page.record_line
 record_line_length word bytes =
     omega (arith, length-append word (map page.letter bytes ++ page.line_end), length-append (map page.letter bytes) page.line_end, length-map bytes page.letter)
-
-pub number_line_ends : (word : List ℕ) (n : ℕ) {at m : ℕ} {a b : List ℕ} → Put at (page.number_line word n) a b m → m ≤ at + length word + most_digits + 1
-number_line_ends word n p = omega (arith, p.behind, number_line_length word n)
-
-pub record_line_ends : (word bytes : List ℕ) {at m : ℕ} {a b : List ℕ} → Put at (page.record_line word bytes) a b m → m ≡ at + length word + length bytes + 1
-record_line_ends word bytes p = omega (arith, p.behind, record_line_length word bytes)

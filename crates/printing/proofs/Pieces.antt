@@ -1,14 +1,16 @@
 -- Pieces put one behind the other. Assumes nothing.
-use mathlib.Core.Path.{◌≡◌, sym, ap, ◌∙◌, subst}
-use mathlib.Core.List.{List, [], ◌∷◌, ◌++◌, append_assoc}
-use Prim.Native.Nat.{ℕ, suc, ◌+◌, ◌≤◌, ◌<◌}
+use mathlib.Core.Path.{◌≡◌, refl, sym, ap, ◌∙◌}
+use mathlib.Core.List.{List, [], ◌++◌, append_assoc}
+use Prim.Native.Nat.{ℕ, ◌+◌, ◌-◌, ◌≤◌}
 use native.Mathlib.Nat.{add-zero}
-use native.Mathlib.Numerals.{add-one}
 use native.Mathlib.Omega.{arith}
-use lib.ListN.{length, get_or, take, drop, set, length-append, length-take, take-append-drop}
-use lib.Seq.{take-suc, take_all, take_at, drop_at, drop-cons, drop-drop, set_at, append_snoc}
+use lib.ListN.{length, take, drop, length-append, length-take, length-drop, take-append-drop}
+use lib.Seq.{take_at, drop_at, drop-drop}
 use Rattle.base.specs.Bytes.{written}
+use Rattle.printing.specs.declared.Paper.{Paper}
 use Rattle.printing.specs.Put.{Put}
+use Rattle.printing.specs.Printed.{HasRoom, Printed}
+use borrow.Rule.Slice.PartMut.{put_mid, post_of}
 
 -- no byte changes nothing
 pub put_nothing : (at : ℕ) (lent : List ℕ) → at ≤ length lent → Put at [] lent lent at
@@ -49,42 +51,25 @@ then {at} {m} {n} {xs} {ys} {a} {b} {c} p q =
       behind = omega (arith, p.behind, q.behind, length-append xs ys);
     }
 
--- one byte more
-written_push : (at : ℕ) (xs : List ℕ) (x : ℕ) (lent : List ℕ) → at + length xs < length lent
-    → set (written at xs lent) (at + length xs) x ≡ written at (xs ++ (x ∷ [])) lent
+-- a part of a paper's buffer, behind what is printed, that now holds a piece
+pub piece_printed : {n : ℕ} {part piece : List ℕ} {p q : Paper} → HasRoom n p → n ≡ length piece → part ≡ piece
+    → q.out.ghost_name ≡ p.out.ghost_name → q.out.now ≡ put_mid p.at (p.at + n - p.at) p.out.now part → q.at ≡ p.at + n → Printed piece p q
 unfolding written
-written_push at xs x lent h =
-    let before = take at lent in
-    let n = at + length xs in
-    let next : suc n ≡ at + length (xs ++ (x ∷ [])) = omega (arith, length-append xs (x ∷ [])) in
-    ap (λ l. set (before ++ (xs ++ l)) n x) (drop-cons lent n 0 h)
-    ∙ ap (λ l. set l n x) (sym (append_assoc before xs (get_or lent n 0 ∷ drop (suc n) lent)))
-    ∙ set_at (before ++ xs) (get_or lent n 0) (drop (suc n) lent) x n (simp (length-append, length-take) (omega arith))
-    ∙ append_assoc before xs (x ∷ drop (suc n) lent)
-    ∙ ap (λ l. before ++ l) (sym (append_snoc xs x (drop (suc n) lent)))
-    ∙ ap (λ k. before ++ ((xs ++ (x ∷ [])) ++ drop k lent)) next
-
-pub push : {at m : ℕ} {xs a b : List ℕ} (x : ℕ) → Put at xs a b m → m < length a → Put at (xs ++ (x ∷ [])) a (set b m x) (m + 1)
-push {at} {m} {xs} {a} {b} x p h =
+piece_printed {n} {part} {piece} {p} {q} room count holds same now behind =
+    let lent = p.out.now in
+    let rest : post_of p.at (p.at + n - p.at) lent ≡ drop (p.at + length piece) lent =
+    drop-drop (p.at + n - p.at) p.at lent ∙ ap (λ k. drop k lent) (omega (arith, room, count)) in
+    let all : q.out.now ≡ written p.at piece lent =
+    now ∙ ap (λ l. take p.at lent ++ (l ++ post_of p.at (p.at + n - p.at) lent)) holds ∙ ap (λ l. take p.at lent ++ (piece ++ l)) rest in
     record {
-      inside = p.inside;
-      now_holds =
-          ap (λ l. set l m x) p.now_holds
-          ∙ ap (λ k. set (written at xs a) k x) p.behind
-          ∙ written_push at xs x a (omega (arith, p.behind, h));
-      behind = omega (arith, p.behind, length-append xs (x ∷ []));
+      same_buffer = same;
+      same_length = ap length all ∙ simp (length-append, length-take, length-drop) (omega (arith, room, count));
+      put = record { inside = omega (arith, room); now_holds = all; behind = omega (arith, behind, count) };
     }
 
--- the bytes of a list in turn: none of them, one more, all of them
-pub put_first : (at : ℕ) (lent : List ℕ) → at ≤ length lent → Put at [] lent lent (at + 0)
-put_first at lent h = subst (λ m. Put at [] lent lent m) (sym (add-zero at)) (put_nothing at lent h)
+-- the same on a paper
+pub printed_nothing : (p : Paper) → Printed [] p p
+printed_nothing p = record { same_buffer = refl; same_length = refl; put = put_nothing p.at p.out.now (omega (arith, p.inside)) }
 
-pub push_next : {at i : ℕ} {a b : List ℕ} (xs : List ℕ) (d : ℕ) → i < length xs → Put at (take i xs) a b (at + i) → at + i < length a
-    → Put at (take (i + 1) xs) a (set b (at + i) (get_or xs i d)) (at + (i + 1))
-push_next {at} {i} {a} {b} xs d h p room =
-    let more : take i xs ++ (get_or xs i d ∷ []) ≡ take (i + 1) xs = sym (take-suc xs i d h) ∙ ap (λ k. take k xs) (sym (add-one i)) in
-    let q = push (get_or xs i d) p room in
-    record { inside = q.inside; now_holds = q.now_holds ∙ ap (λ l. written at l a) more; behind = omega (arith, q.behind, ap length more) }
-
-pub put_last : {at i : ℕ} {a b : List ℕ} (xs : List ℕ) → length xs ≤ i → Put at (take i xs) a b (at + i) → Put at xs a b (at + i)
-put_last {at} {i} {a} {b} xs h p = subst (λ l. Put at l a b (at + i)) (take_all i xs h) p
+pub printed_then : {xs ys : List ℕ} {a b c : Paper} → Printed xs a b → Printed ys b c → Printed (xs ++ ys) a c
+printed_then p q = record { same_buffer = q.same_buffer ∙ p.same_buffer; same_length = q.same_length ∙ p.same_length; put = then p.put q.put }

@@ -1,119 +1,131 @@
-// What the desk prints, line by line, into a lent buffer. Each piece answers where the next one goes.
+// What the desk prints, line by line, on a lent buffer.
 #![tactic(auto)]
 
-ghost use Rattle.std.specs.Prelude.{◌≡◌, map, ◌+◌, ◌≤◌, length};
+ghost use Rattle.std.specs.Prelude.{◌≡◌, map, ◌+◌, ◌≤◌, length, take};
 ghost use Rattle.rules.specs.Desk as page;
-ghost use Rattle.printing.specs.Put.{Put};
 ghost use Rattle.printing.specs.Room.{most_digits, refused_room, booth_room};
 
 use base::Refusal;
+use itoa::Buffer;
 use rules::BOOTHS_ALLOWED;
 
-// No number of 64 bits has more.
-const MOST_DIGITS: usize = 20;
 // Booths and tasks are below it.
 const NO_BOOTH: u8 = BOOTHS_ALLOWED as u8;
 
-// Bytes as they are.
-fn put(out: &mut [u8], at: usize, bytes: &[u8]) -> usize
-    requires { at + length bytes.now ≤ length out.old }
-    ensures { Put at bytes.now out.old out.new result }
-{
-    let mut i = 0;
-    while i < bytes.len() {
-        out[at + i] = bytes[i];
-        i += 1;
-    }
-    at + i
-}
-
+#[tactic(auto, unfolding(rules::specs::Desk::letter))]
 fn letter(byte: u8) -> u8
     ensures { result ≡ page.letter byte }
 {
-    if byte < NO_BOOTH {
-        return b'0' + byte;
-    }
-    b'.'
+    if byte < NO_BOOTH { b'0' + byte } else { b'.' }
 }
 
-// A record or a row, a letter for each byte.
-fn put_letters(out: &mut [u8], at: usize, kept: &[u8]) -> usize
-    requires { at + length kept.now ≤ length out.old }
-    ensures { Put at (map page.letter kept.now) out.old out.new result }
-{
-    let mut i = 0;
-    while i < kept.len() {
-        out[at + i] = letter(kept[i]);
-        i += 1;
-    }
-    at + i
-}
-
-// The decimal digits of n, the last one last.
-fn put_digits(out: &mut [u8], at: usize, n: usize, most: usize) -> usize
-    requires { at + most ≤ length out.old }
-    ensures { Put at (page.digits most n) out.old out.new result }
-{
-    if most == 0 {
-        return at;
-    }
-    if n < 10 {
-        out[at] = b'0' + n as u8;
-        return at + 1;
-    }
-    let next = put_digits(&mut out[..], at, n / 10, most - 1);
-    out[next] = b'0' + (n % 10) as u8;
-    next + 1
-}
-
-// A word and its number.
-fn put_labelled(out: &mut [u8], at: usize, word: &[u8], n: usize) -> usize
-    requires { at + length word.now + most_digits ≤ length out.old }
-    ensures { Put at (page.labelled word.now n) out.old out.new result }
-{
-    let next = put(&mut out[..], at, word);
-    put_digits(out, next, n, MOST_DIGITS)
-}
-
-pub fn number_line(out: &mut [u8], at: usize, word: &[u8], n: usize) -> usize
-    requires { at + length word.now + most_digits + 1 ≤ length out.old }
-    ensures { Put at (page.number_line word.now n) out.old out.new result }
-{
-    let next = put_labelled(&mut out[..], at, word, n);
-    put(out, next, b"\n")
-}
-
-pub fn record_line(out: &mut [u8], at: usize, word: &[u8], kept: &[u8]) -> usize
-    requires { at + length word.now + length kept.now + 1 ≤ length out.old }
-    ensures { Put at (page.record_line word.now kept.now) out.old out.new result }
-{
-    let first = put(&mut out[..], at, word);
-    let next = put_letters(&mut out[..], first, kept);
-    put(out, next, b"\n")
-}
-
-pub fn refused_line(out: &mut [u8], what: &[u8], refusal: Refusal) -> usize
-    requires { length what.now + refused_room ≤ length out.old }
-    ensures { Put 0 (page.refused_line what.now refusal) out.old out.new result }
-{
-    let first = put(&mut out[..], 0, b"refused ");
-    let next = put_labelled(&mut out[..], first, what, refusal.number as usize);
-    number_line(out, next, b" at ", refusal.place)
-}
-
-pub fn booth_line(
-    out: &mut [u8],
+// A lent buffer with what is printed so far, and where the next piece goes.
+// Its pieces are put one by one: `write!` may answer an error, and no clause of it says that it has none where there is room.
+#[derive(Drop)]
+pub struct Paper<'a> {
+    out: &'a mut [u8],
     at: usize,
-    booth: usize,
-    clock: usize,
-    worked: usize,
-    row: &[u8],
-) -> usize
-    requires { at + booth_room + length row.now ≤ length out.old }
-    ensures { Put at (page.booth_line booth clock worked row.now) out.old out.new result }
-{
-    let first = put_labelled(&mut out[..], at, b"booth ", booth);
-    let second = put_labelled(&mut out[..], first, b" own ", clock);
-    let third = put_labelled(&mut out[..], second, b" worked ", worked);
-    record_line(out, third, b" ", row)
+    pub ghost inside: { at ≤ length out.now },
+}
+
+impl<'a> Paper<'a> {
+    ghost use Rattle.printing.specs.Printed.{HasRoom, Printed};
+
+    // Nothing is printed yet.
+    pub fn new(out: &'a mut [u8]) -> Paper<'a>
+        ensures same_buffer { result.out.ghost_name ≡ out.entry.ghost_name }
+        ensures as_lent { result.out.now ≡ out.old }
+        ensures at_start { result.at ≡ 0 }
+    {
+        Paper { out, at: 0 }
+    }
+
+    // What is printed so far.
+    pub fn printed(&self) -> &[u8]
+        ensures { result.now ≡ take self.now.at self.now.out.now }
+    {
+        &self.out[..self.at]
+    }
+
+    // Bytes as they are.
+    fn put(&mut self, bytes: &[u8])
+        requires { HasRoom (length bytes.now) self.old }
+        ensures { Printed bytes.now self.old self.new }
+    {
+        let end = self.at + bytes.len();
+        self.out[self.at..end].copy_from_slice(bytes);
+        self.at = end;
+    }
+
+    // A record or a row, a letter for each byte.
+    fn put_letters(&mut self, kept: &[u8])
+        requires { HasRoom (length kept.now) self.old }
+        ensures { Printed (map page.letter kept.now) self.old self.new }
+    {
+        let end = self.at + kept.len();
+        let part = &mut self.out[self.at..end];
+        part.copy_from_slice(kept);
+        // Over a `zip` of `part.iter_mut()` with `kept` nothing is known of what `part` holds in the end.
+        for byte in part.iter_mut() {
+            *byte = letter(*byte);
+        }
+        self.at = end;
+    }
+
+    // The decimal digits of n.
+    #[tactic(auto, using(crate::proofs::Digits::decimal_is))]
+    fn put_number(&mut self, n: usize)
+        requires { HasRoom most_digits self.old }
+        ensures { Printed (page.decimal n) self.old self.new }
+    {
+        self.put(Buffer::new().format(n).as_bytes());
+    }
+
+    // A word and its number.
+    fn put_labelled(&mut self, word: &[u8], n: usize)
+        requires { HasRoom (length word.now + most_digits) self.old }
+        ensures { Printed (page.labelled word.now n) self.old self.new }
+    {
+        self.put(word);
+        self.put_number(n);
+    }
+
+    #[tactic(auto, using(crate::proofs::Digits::labelled_length))]
+    pub fn number_line(&mut self, word: &[u8], n: usize)
+        requires { HasRoom (length word.now + most_digits + 1) self.old }
+        ensures { Printed (page.number_line word.now n) self.old self.new }
+    {
+        self.put_labelled(word, n);
+        self.put(b"\n");
+    }
+
+    pub fn record_line(&mut self, word: &[u8], kept: &[u8])
+        requires { HasRoom (length word.now + length kept.now + 1) self.old }
+        ensures { Printed (page.record_line word.now kept.now) self.old self.new }
+    {
+        self.put(word);
+        self.put_letters(kept);
+        self.put(b"\n");
+    }
+
+    #[tactic(auto, using(crate::proofs::Digits::labelled_length))]
+    pub fn refused_line(&mut self, what: &[u8], refusal: Refusal)
+        requires { HasRoom (length what.now + refused_room) self.old }
+        ensures { Printed (page.refused_line what.now refusal) self.old self.new }
+    {
+        self.put(b"refused ");
+        self.put_labelled(what, refusal.number as usize);
+        self.number_line(b" at ", refusal.place);
+    }
+
+    #[tactic(auto, using(crate::proofs::Digits::labelled_length))]
+    pub fn booth_line(&mut self, booth: usize, clock: usize, worked: usize, row: &[u8])
+        requires { HasRoom (booth_room + length row.now) self.old }
+        ensures { Printed (page.booth_line booth clock worked row.now) self.old self.new }
+    {
+        self.put_labelled(b"booth ", booth);
+        self.put_labelled(b" own ", clock);
+        self.put_labelled(b" worked ", worked);
+        self.record_line(b" ", row);
+    }
 }

@@ -11,7 +11,6 @@ use Rattle.base.specs.Refusals.{Refusal, refuse_if, first_fault}
 use Rattle.rules.specs.RowBack.{row_checks, row_back}
 use Rattle.rules.specs.Desk as page
 use Rattle.laws.proofs.NoFault.{no_fault}
-use Rattle.printing.specs.Put.{Put}
 use Rattle.text.specs.TextAnswered.{booth_line_room}
 use Rattle.printing.proofs.Digits.{labelled_length}
 use Rattle.printing.proofs.LineLengths.{record_line_length}
@@ -63,7 +62,3 @@ pub booth_lines_more : (i H : ℕ) (clocks worked own : List ℕ)
     → page.booth_lines (i + 1) H clocks worked own ≡ page.booth_lines i H clocks worked own ++ page.booth_line i (get_or clocks i 0) (get_or worked i 0) (row_back own H i (get_or clocks i 0)).part
 unfolding page.booth_lines
 booth_lines_more i H clocks worked own = ap (λ k. page.booth_lines k H clocks worked own) (add-one i)
-
--- where the piece behind them goes
-pub booth_lines_end : (n H : ℕ) (clocks worked own : List ℕ) {at m : ℕ} {a b : List ℕ} → H ≤ page.most_ticks → Put at (page.booth_lines n H clocks worked own) a b m → m ≤ at + n * booth_line_room
-booth_lines_end n H clocks worked own h p = omega (arith, p.behind, booth_lines_length n H clocks worked own h)

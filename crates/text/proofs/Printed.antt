@@ -1,13 +1,13 @@
 -- The text of a session case by case, from its arrays, its input and the buffer lent. Assumes nothing.
 use mathlib.Core.Path.{◌≡◌, refl, sym, ap, ◌∙◌}
 use mathlib.Core.List.{List, [], ◌∷◌, ◌++◌}
-use Prim.Native.Nat.{ℕ, zero, suc, ◌+◌, ◌*◌, ◌-◌, ◌≤◌, ◌<◌}
+use Prim.Native.Nat.{ℕ, zero, suc, ◌*◌, ◌-◌, ◌≤◌}
 use native.Mathlib.Omega.{arith}
-use lib.ListN.{length, get_or, take, drop, replicate, length-append, length-replicate}
-use borrow.Author.Tests.{lt-ltb, le-ltb}
-use Rattle.rules.specs.Verdicts.{Refused, Nothing, TheTable, TheLog, TheCall}
+use lib.ListN.{length, get_or, take, replicate, length-take, length-replicate}
+use borrow.Author.Tests.{le-ltb}
+use Rattle.rules.specs.Verdicts.{Refused}
+use Rattle.rules.specs.Verdicts.{Nothing, TheTable, TheLog, TheCall}
 use Rattle.base.specs.Bytes.{written}
-use Rattle.base.specs.Refusals.{refusal}
 use Rattle.rules.specs.BoothTable.{booths_allowed}
 use Rattle.rules.specs.Session.{Outcome, session}
 use Rattle.rules.specs.RowBack.{row_back}
@@ -16,7 +16,8 @@ use Rattle.rules.specs.Desk as page
 use Rattle.rules.proofs.Held.{zeros}
 use Rattle.session.specs.declared.SessionAnswer.{SessionAnswer}
 use Rattle.session.specs.SessionAnswered.{answered}
-use Rattle.printing.specs.Put.{Put}
+use Rattle.printing.specs.declared.Paper.{Paper}
+use Rattle.printing.specs.Printed.{Printed}
 use Rattle.text.specs.TextAnswered.{answer_text, text_room, text_length, with_text}
 use Rattle.text.proofs.Unrefused.{fits}
 
@@ -42,39 +43,21 @@ answer_prints o =
     ap (λ l. page.number_line page.word_admitted (length o.clocks) ++ (page.record_line page.word_wall (take H o.wall) ++ (l ++ page.number_line page.word_idle o.idle)))
     (lines_held_lem (length o.clocks) H o.clocks o.worked o.own)
 
--- ---- the input
-
-pub too_long : (input : List ℕ) → page.most_input < length input → page.desk_text input ≡ page.refused_line page.word_input (refusal 12 page.most_input)
-unfolding page.desk_text
-too_long input h = rw (lt-ltb page.most_input (length input) h, page.desk_text)
-
-pub in_two_files : (input : List ℕ) → length input ≤ page.most_input → page.desk_text input ≡ page.session_text (take (page.table_end input) input) (drop (page.table_end input) input)
-unfolding page.desk_text
-in_two_files input h = rw (le-ltb page.most_input (length input) h, page.desk_text)
-
 -- ---- the buffer
 
-piece_fits : (piece lent : List ℕ) → length piece ≤ length (written 0 piece lent)
-unfolding written
-piece_fits piece lent = omega (arith, length-append piece (drop (0 + length piece) lent))
+-- a text on a paper over the whole buffer that was lent
+module _ (input lent : List ℕ) (p q : Paper) (room : text_room ≤ length lent) (start : p.at ≡ 0) (over : p.out.now ≡ lent) (text : Printed (page.desk_text input) p q) where
+  pub text_counted : length (take q.at q.out.now) ≡ text_length input lent
+  unfolding text_length
+  text_counted =
+      let long : text_length input lent ≡ length (page.desk_text input) = rw (le-ltb (length lent) text_room room, text_length) in
+      omega (arith, length-take q.at q.out.now, q.inside, text.put.behind, start, long)
 
-pub buffer_short : (input lent : List ℕ) → length lent < text_room → (0 ≡ text_length input lent) × ((lent ≡ with_text input lent) × (0 ≤ length lent))
-unfolding text_length with_text
-buffer_short input lent h = (sym (rw (lt-ltb (length lent) text_room h, text_length)), (sym (rw (lt-ltb (length lent) text_room h, with_text)), omega arith))
-
-pub text_put : (input text lent after : List ℕ) (r : ℕ) → text_room ≤ length lent → page.desk_text input ≡ text → Put 0 text lent after r
-    → (r ≡ text_length input lent) × ((after ≡ with_text input lent) × (r ≤ length after))
-unfolding text_length with_text
-text_put input text lent after r h e p = (
-  omega (arith, p.behind, ap length e, counted),
-  (p.now_holds ∙ ap (λ l. written 0 l lent) (sym e) ∙ sym holds, omega (arith, p.behind, ap length p.now_holds, piece_fits text lent)),
-)
-  where
-    counted : text_length input lent ≡ length (page.desk_text input)
-    counted = rw (le-ltb (length lent) text_room h, text_length)
-
-    holds : with_text input lent ≡ written 0 (page.desk_text input) lent
-    holds = rw (le-ltb (length lent) text_room h, with_text)
+  pub text_held : q.out.now ≡ with_text input lent
+  unfolding with_text
+  text_held =
+      let whole : with_text input lent ≡ written 0 (page.desk_text input) lent = rw (le-ltb (length lent) text_room room, with_text) in
+      text.put.now_holds ∙ ap (λ k. written k (page.desk_text input) p.out.now) start ∙ ap (written 0 (page.desk_text input)) over ∙ sym whole
 
 -- ---- the session's answer
 

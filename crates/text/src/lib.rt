@@ -3,11 +3,11 @@
 
 ghost use Rattle.std.specs.Prelude.{◌≡◌, ◌+◌, ◌*◌, ◌≤◌, length};
 ghost use Rattle.rules.specs.Desk as page;
-ghost use Rattle.printing.specs.Put.{Put};
+ghost use Rattle.printing.specs.Printed.{HasRoom, Printed};
 ghost use Rattle.text.specs.TextAnswered.{answer_text, text_room, booth_line_room, text_length, with_text};
 
 use base::Refusal;
-use printing::{booth_line, number_line, record_line, refused_line};
+use printing::Paper;
 use rules::{BOOTHS_ALLOWED, Refused};
 use session::SessionAnswer;
 
@@ -19,38 +19,32 @@ const MOST_TICKS: usize = 2000;
 pub const TEXT_ROOM: usize = 18710;
 
 // A line for each booth, with its row as it is handed back.
-fn booth_lines(out: &mut [u8], at: usize, answer: SessionAnswer, own: &[u8], h: usize) -> usize
-    requires { (answer.booths ≤ 8) × (h ≤ page.most_ticks) × (at + answer.booths * booth_line_room ≤ length out.old) }
-    ensures { Put at (page.booth_lines answer.booths h answer.clocks answer.worked own.now) out.old out.new result }
+#[tactic(auto, using(printing::proofs::Pieces::printed_nothing), unfolding(rules::specs::Desk::booth_lines))]
+fn booth_lines(paper: &mut Paper, answer: SessionAnswer, own: &[u8], h: usize)
+    requires { (answer.booths ≤ 8) × (h ≤ page.most_ticks) × HasRoom (answer.booths * booth_line_room) paper.old }
+    ensures { Printed (page.booth_lines answer.booths h answer.clocks answer.worked own.now) paper.old paper.new }
 {
-    let n = answer.booths;
-    let clocks = answer.clocks;
-    let worked = answer.worked;
-    let mut next = at;
-    let mut i = 0;
-    while i < n {
-        let clock = clocks[i] as usize;
-        let row = rows::row_back(own, h, i, clock);
-        next = booth_line(&mut out[..], next, i, clock, worked[i] as usize, row);
-        i += 1;
+    for booth in 0..answer.booths {
+        let clock = answer.clocks[booth] as usize;
+        let row = rows::row_back(own, h, booth, clock);
+        paper.booth_line(booth, clock, answer.worked[booth] as usize, row);
     }
-    next
 }
 
-fn admitted_text(out: &mut [u8], answer: SessionAnswer, wall: &[u8], own: &[u8], h: usize) -> usize
-    requires { (answer.booths ≤ 8) × (h ≤ page.most_ticks) × (h ≤ length wall.now) × (text_room ≤ length out.old) }
-    ensures { Put 0 (answer_text h answer wall.now own.now) out.old out.new result }
+fn admitted_text(paper: &mut Paper, answer: SessionAnswer, wall: &[u8], own: &[u8], h: usize)
+    requires { (answer.booths ≤ 8) × (h ≤ page.most_ticks) × (h ≤ length wall.now) × HasRoom text_room paper.old }
+    ensures { Printed (answer_text h answer wall.now own.now) paper.old paper.new }
 {
-    let first = number_line(&mut out[..], 0, b"admitted ", answer.booths);
-    let second = record_line(&mut out[..], first, b"wall ", &wall[..h]);
-    let third = booth_lines(&mut out[..], second, answer, own, h);
-    number_line(out, third, b"idle ", answer.idle as usize)
+    paper.number_line(b"admitted ", answer.booths);
+    paper.record_line(b"wall ", &wall[..h]);
+    booth_lines(paper, answer, own, h);
+    paper.number_line(b"idle ", answer.idle as usize);
 }
 
 // The session of a table and a log in records of the desk's own, as text.
-fn session_text(out: &mut [u8], table: &[u8], log: &[u8]) -> usize
-    requires { text_room ≤ length out.old }
-    ensures { Put 0 (page.session_text table.now log.now) out.old out.new result }
+fn session_text(paper: &mut Paper, table: &[u8], log: &[u8])
+    requires { HasRoom text_room paper.old }
+    ensures { Printed (page.session_text table.now log.now) paper.old paper.new }
 {
     let mut wall = [0u8; MOST_TICKS];
     let mut own = [0u8; BOOTHS_ALLOWED * MOST_TICKS];
@@ -59,17 +53,18 @@ fn session_text(out: &mut [u8], table: &[u8], log: &[u8]) -> usize
     let refusal = verdict.refusal;
     let refused = verdict.refused;
     match refused {
-        Refused::TheTable => refused_line(out, b"table ", refusal),
-        Refused::TheLog => refused_line(out, b"log ", refusal),
-        Refused::TheCall => refused_line(out, b"session ", refusal),
+        Refused::TheTable => paper.refused_line(b"table ", refusal),
+        Refused::TheLog => paper.refused_line(b"log ", refusal),
+        Refused::TheCall => paper.refused_line(b"session ", refusal),
         Refused::Nothing => {
             let h = answer.horizon as usize;
-            admitted_text(out, answer, &wall, &own, h)
+            admitted_text(paper, answer, &wall, &own, h);
         }
     }
 }
 
 // The table ends where its N says, or where the input ends.
+#[tactic(auto, unfolding(rules::specs::Desk::table_end, rules::specs::FileHead::head_n))]
 fn table_end(input: &[u8]) -> usize
     ensures { (result ≡ page.table_end input.now) × (result ≤ length input.now) }
 {
@@ -78,13 +73,27 @@ fn table_end(input: &[u8]) -> usize
         return all;
     }
     let end = 3 + base::number16(input, 1) as usize;
-    if end < all {
-        return end;
+    end.min(all)
+}
+
+#[tactic(auto, unfolding(rules::specs::Desk::desk_text, base::specs::Refusals::refusal))]
+fn input_text(paper: &mut Paper, input: &[u8])
+    requires { HasRoom text_room paper.old }
+    ensures { Printed (page.desk_text input.now) paper.old paper.new }
+{
+    if MOST_INPUT < input.len() {
+        let refusal = Refusal {
+            number: base::TOO_LONG_AN_INPUT,
+            place: MOST_INPUT,
+        };
+        return paper.refused_line(b"input ", refusal);
     }
-    all
+    let (table, log) = input.split_at(table_end(input));
+    session_text(paper, table, log);
 }
 
 // What the desk prints for any input, at the start of a buffer of at least 18,710 bytes; how many bytes there are of it.
+#[tactic(auto, using(crate::proofs::Printed::text_counted, crate::proofs::Printed::text_held), unfolding(crate::specs::TextAnswered::text_length, crate::specs::TextAnswered::with_text))]
 pub fn desk_text(input: &[u8], out: &mut [u8]) -> usize
     ensures length { result ≡ text_length input.now out.old }
     ensures text { out.new ≡ with_text input.now out.old }
@@ -93,13 +102,7 @@ pub fn desk_text(input: &[u8], out: &mut [u8]) -> usize
     if out.len() < TEXT_ROOM {
         return 0;
     }
-    if MOST_INPUT < input.len() {
-        let refusal = Refusal {
-            number: base::TOO_LONG_AN_INPUT,
-            place: MOST_INPUT,
-        };
-        return refused_line(out, b"input ", refusal);
-    }
-    let end = table_end(input);
-    session_text(out, &input[..end], &input[end..])
+    let mut paper = Paper::new(out);
+    input_text(&mut paper, input);
+    paper.printed().len()
 }

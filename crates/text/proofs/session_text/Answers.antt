@@ -5,7 +5,7 @@ use Prim.Native.Nat.{ℕ}
 use lib.ListN.{length, length-replicate}
 use Rattle.rules.specs.Desk as page
 use Rattle.session.specs.SessionAnswered.{answered}
-use Rattle.printing.specs.Put.{Put}
+use Rattle.printing.specs.Printed.{Printed}
 use Rattle.text.proofs.Printed.{desk_outcome, answer_fits, table_prints, log_prints, call_prints, session_prints}
 use Rattle.text.proofs.session_text.Goals as goal
 
@@ -22,9 +22,8 @@ pub returns-in-TheTable : goal.returns-in-TheTable
 unfolding desk_outcome
 returns-in-TheTable c =
     let s = c.session-answer in
-    let line = c.refused_line in
     let is : s.result ≡ answered (desk_outcome c.args.table.now c.args.log.now) = s.ensures.answer in
-    subst (λ l. Put 0 l c.args.out.now line.new.out line.result) (table_prints c.args.table.now c.args.log.now s.result is c.in-TheTable.is) line.ensures
+    subst (λ l. Printed l c.args.paper.now c.refused_line.new.self) (table_prints c.args.table.now c.args.log.now s.result is c.in-TheTable.is) c.refused_line.ensures
 
 pub returns-in-TheLog : goal.returns-in-TheLog
 unfolding desk_outcome
@@ -32,7 +31,7 @@ returns-in-TheLog c =
     let s = c.session-answer in
     let line = c.refused_line-in-TheLog in
     let is : s.result ≡ answered (desk_outcome c.args.table.now c.args.log.now) = s.ensures.answer in
-    subst (λ l. Put 0 l c.args.out.now line.new.out line.result) (log_prints c.args.table.now c.args.log.now s.result is c.in-TheLog.is) line.ensures
+    subst (λ l. Printed l c.args.paper.now line.new.self) (log_prints c.args.table.now c.args.log.now s.result is c.in-TheLog.is) line.ensures
 
 pub returns-in-TheCall : goal.returns-in-TheCall
 unfolding desk_outcome
@@ -40,7 +39,7 @@ returns-in-TheCall c =
     let s = c.session-answer in
     let line = c.refused_line-in-TheCall in
     let is : s.result ≡ answered (desk_outcome c.args.table.now c.args.log.now) = s.ensures.answer in
-    subst (λ l. Put 0 l c.args.out.now line.new.out line.result) (call_prints c.args.table.now c.args.log.now s.result is c.in-TheCall.is) line.ensures
+    subst (λ l. Printed l c.args.paper.now line.new.self) (call_prints c.args.table.now c.args.log.now s.result is c.in-TheCall.is) line.ensures
 
 pub returns-in-Nothing : goal.returns-in-Nothing
 unfolding desk_outcome
@@ -48,5 +47,5 @@ returns-in-Nothing c =
     let s = c.session-answer in
     let text = c.admitted_text in
     let is : s.result ≡ answered (desk_outcome c.args.table.now c.args.log.now) = s.ensures.answer in
-    subst (λ l. Put 0 l c.args.out.now text.new.out text.result)
+    subst (λ l. Printed l c.args.paper.now text.new.paper)
     (session_prints c.args.table.now c.args.log.now s.result s.new.wall s.new.own is c.in-Nothing.is s.ensures.wall s.ensures.own) text.ensures

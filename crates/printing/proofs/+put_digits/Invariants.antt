@@ -1,5 +1,0 @@
--- `printing::put_digits` calls itself with a falling `most`.
-use Rattle.printing.proofs.+put_digits.Given as goal
-
-abbrev pub decreases-put_digits : goal.decreases-put_digits
-decreases-put_digits l = l.most
