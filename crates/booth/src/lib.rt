@@ -30,7 +30,7 @@ pub struct Booth {
     pub tasks: usize,
     // Unplayed demand for each task, but for the first with some.
     pub demand: [u32; TASKS_ALLOWED],
-    // The first task with demand, or none.
+    // The first task with demand, or NO_TASK. As an Option it was tried: all busy with mixed periods then misses its bar, 1.54 to 1.62 of the fast program's time beside 1.43 to 1.50.
     pub first: usize,
     // Where the first entry that waits lies in the log; its tick and its release point stand below.
     pub at: usize,
