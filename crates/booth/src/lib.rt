@@ -14,7 +14,7 @@ ghost use Rattle.rules.specs.Fit.{FitLine};
 ghost use Rattle.arrivals.specs.Places.{waiting_at, Place, WholeLog};
 ghost use Rattle.booth.specs.BoothHeld.{absent_booth, owed, shown, settled_answer, asked, takes_next, taken_next, goes_on, wakes_at, Found, Looked, Steady, Fit, Stays, KeptFrom, ShownBy, ToSettle, Settled, ToPlay, AfterPlay, AfterAsk, demanding, clock_at, played_on, lengthened};
 
-use arrivals::FIRST_ENTRY;
+use arrivals::{Entry, FIRST_ENTRY};
 use rules::{ENTRY_BYTES, Line, NOBODY, Opens, OwnTick, Promise, TASKS_ALLOWED, WallTick};
 
 // The tick of an entry that never comes. No Option: `wakes` answers a tick to compare with in any case, and `take_next` would take apart what `takes` has tested.
@@ -58,7 +58,8 @@ fn next_of(log: &[u8], number: usize, from: usize) -> usize
     ensures { Found log.now number from result }
 {
     for at in (from..log.len()).step_by(ENTRY_BYTES) {
-        if arrivals::entry_booth(log, at) == number {
+        let entry = Entry::at(log, at);
+        if entry.booth == number {
             return at;
         }
     }
@@ -121,15 +122,12 @@ impl Booth {
         let at = next_of(log, self.number, from);
         self.at = at;
         if log.len() <= at {
-            let tick = WallTick(NEVER);
-            self.tick = tick;
+            self.tick = WallTick(NEVER);
             return self;
         }
-        let tick = arrivals::entry_tick(log, at);
-        self.tick = tick;
-        let promise = self.promise;
-        let point = rules::due(promise, tick);
-        self.point = point;
+        let entry = Entry::at(log, at);
+        self.tick = entry.tick;
+        self.point = rules::due(self.promise, entry.tick);
         self
     }
 
@@ -152,14 +150,14 @@ impl Booth {
         requires { length all ≡ 8 }
         ensures { result ≡ demanding self all }
     {
-        let first = rules::first_task(all);
         self.demand = all;
-        self.first = first;
-        if TASKS_ALLOWED <= first {
+        let Some(k) = rules::first_task(&all) else {
+            self.first = NO_TASK;
             self.left = 0;
             return self;
-        }
-        self.left = all[first];
+        };
+        self.first = k;
+        self.left = all[k];
         self
     }
 
@@ -214,11 +212,10 @@ impl Booth {
         ensures row { row.new ≡ lengthened row.old self.clock.0 (replicate (self.point.0 - self.clock.0) 255) }
     {
         let at = self.at;
-        let k = arrivals::entry_task(log, at);
-        let d = arrivals::entry_demand(log, at);
+        let entry = Entry::at(log, at);
         let to = self.point;
         self = self.pass(row, to);
-        self = self.add(k, d);
+        self = self.add(entry.task, entry.demand);
         self = self.look(log, at + ENTRY_BYTES);
         self
     }

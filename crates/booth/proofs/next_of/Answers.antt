@@ -18,13 +18,13 @@ found_none bs number from at place later same ends =
 pub loop-at-init : goal.loop-at-init
 loop-at-init c = record { place = c.requires; later = omega arith; same = refl }
 
-pub entry_booth-requires : goal.entry_booth-requires
-entry_booth-requires c = (whole_entry c.args.log.now c.loop-at.at c.loop-at.invariant.place c.loop-at-test.true).0
+pub at-entry-requires : goal.at-entry-requires
+at-entry-requires c = (whole_entry c.args.log.now c.loop-at.at c.loop-at.invariant.place c.loop-at-test.true).0
 
-pub returns-then-entry_booth-number : goal.returns-then-entry_booth-number
-returns-then-entry_booth-number c =
+pub returns-then-entry-number : goal.returns-then-entry-number
+returns-then-entry-number c =
     let inv = c.loop-at.invariant in
-    record { place = inv.place; later = inv.later; same = inv.same; here = λ h. sym c.entry_booth.ensures ∙ c.if-entry_booth-number.true }
+    record { place = inv.place; later = inv.later; same = inv.same; here = λ h. sym c.at-entry.ensures.booth ∙ c.if-entry-number.true }
 
 pub loop-at-preserved : goal.loop-at-preserved
 loop-at-preserved c =
@@ -35,7 +35,7 @@ loop-at-preserved c =
     record {
       place = (whole_entry bs at inv.place inside).1;
       later = omega arith;
-      same = sym (waiting_other bs c.args.number at inv.place inside (λ e. c.if-entry_booth-number.false (c.entry_booth.ensures ∙ e))) ∙ inv.same;
+      same = sym (waiting_other bs c.args.number at inv.place inside (λ e. c.if-entry-number.false (c.at-entry.ensures.booth ∙ e))) ∙ inv.same;
     }
 
 pub returns : goal.returns
@@ -43,12 +43,12 @@ returns c =
     let inv = c.loop-at.invariant in
     found_none c.args.log.now c.args.number c.args.from c.loop-at.at inv.place inv.later inv.same (omega arith)
 
-pub returns-else-entry_booth-number : goal.returns-else-entry_booth-number
-returns-else-entry_booth-number c =
+pub returns-else-entry-number : goal.returns-else-entry-number
+returns-else-entry-number c =
     let bs = c.args.log.now in
     let at = c.loop-at.at in
     let inv = c.loop-at.invariant in
     let inside = c.loop-at-test.true in
     let next = whole_entry bs at inv.place inside in
-    let other = sym (waiting_other bs c.args.number at inv.place inside (λ e. c.if-entry_booth-number.false (c.entry_booth.ensures ∙ e))) in
+    let other = sym (waiting_other bs c.args.number at inv.place inside (λ e. c.if-entry-number.false (c.at-entry.ensures.booth ∙ e))) in
     found_none bs c.args.number c.args.from (at + 9) next.1 (omega (arith, inv.later)) (other ∙ inv.same) (omega arith)

@@ -11,7 +11,7 @@ use Rattle.rules.specs.Fit.{FitTable}
 use Rattle.files.specs.FilesTaken.{FilesTaken}
 use Rattle.rules.specs.Files.{read_files, one_refused}
 use Rattle.rules.specs.Verdicts.{verdict_said}
-use Rattle.rules.specs.Verdicts.{Table, Log}
+use Rattle.rules.specs.declared.Refused.TheVariants.{Table, Log}
 use Rattle.rules.proofs.TwoFiles.{table_refused, log_refused}
 use Rattle.table.proofs.TableTaken.{TableTaken, answer_taken, answer_refused}
 use Rattle.arrivals.specs.declared.LogAnswer.{LogAnswer}

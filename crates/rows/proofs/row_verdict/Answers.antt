@@ -4,7 +4,7 @@ use Rattle.base.specs.declared.Refusal.{Refusal as HeldRefusal}
 use Rattle.base.proofs.Checks.{nothing_found, fault_found}
 use Rattle.rules.specs.Verdicts.{verdict_said, verdict_in}
 use Rattle.rules.specs.RowBack.{row_back}
-use Rattle.rules.specs.Verdicts.{Call}
+use Rattle.rules.specs.declared.Refused.TheVariants.{Call}
 use Rattle.rows.proofs.HandedRow.{row_refused, row_given}
 use Rattle.rows.proofs.row_verdict.Goals as goal
 

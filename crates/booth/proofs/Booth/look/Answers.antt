@@ -20,13 +20,13 @@ pub returns : goal.returns
 unfolding looking_at
 returns c =
     let found = c.next_of-at.ensures in
-    let tick = c.entry_tick-tick.ensures in
+    let tick = c.at-entry.ensures.tick in
     record {
       is = refl;
       waits = record {
         place = found.place;
         none = λ h. absurd (omega (arith, c.if-log-at.false));
-        next = λ h. record { booth = found.here h; tick = tick; point = c.due-point.ensures ∙ ap (due c.args.self.promise) tick };
+        next = λ h. record { booth = found.here h; tick = tick; point = c.due-self.ensures ∙ ap (due c.args.self.promise) tick };
       };
       later = found.later;
       same = found.same;

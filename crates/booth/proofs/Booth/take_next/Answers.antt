@@ -10,11 +10,8 @@ use Rattle.booth.specs.BoothHeld.{owed, shown, Looked, looking_at, demanding, cl
 use Rattle.booth.proofs.Taking.{entry_of, added, own_task, owed_moved, shown_taken, fit_taken}
 use Rattle.booth.proofs.Booth.take_next.Goals as goal
 
-pub entry_task-k-requires : goal.entry_task-k-requires
-entry_task-k-requires c = (whole_entry c.args.log.now c.args.self.at c.requires.whole_log.1.waits.place c.requires.whole_log.2).0
-
-pub entry_demand-d-requires : goal.entry_demand-d-requires
-entry_demand-d-requires c = (whole_entry c.args.log.now c.args.self.at c.requires.whole_log.1.waits.place c.requires.whole_log.2).0
+pub at-entry-requires : goal.at-entry-requires
+at-entry-requires c = (whole_entry c.args.log.now c.args.self.at c.requires.whole_log.1.waits.place c.requires.whole_log.2).0
 
 pub pass-self-requires : goal.pass-self-requires
 pass-self-requires c =
@@ -32,12 +29,12 @@ add-self-requires c =
     let fit = c.requires.whole_log.1 in
     let more = c.requires.whole_log.2 in
     let moved = c.pass-self.ensures.state in
-    let k = c.entry_task-k.ensures in
-    let d = c.entry_demand-d.ensures in
+    let k = c.at-entry.ensures.task in
+    let d = c.at-entry.ensures.small in
     let ds : owed c.pass-self.result ≡ owed h = ap owed moved ∙ owed_moved h (h.clock.0 + (h.point.0 - h.clock.0)) in (
       omega (arith, k, own_task bs h fit more, fit.steady.tasks),
       ap (λ (x : Booth). length x.demand) moved ∙ fit.steady.eight,
-      omega (arith, d.1, fit.room c.entry_task-k.result, ap (λ xs. get_or xs c.entry_task-k.result 0) ds),
+      omega (arith, d, fit.room c.at-entry.result.task, ap (λ xs. get_or xs c.at-entry.result.task 0) ds),
     )
 
 pub overflow_add-at : goal.overflow_add-at
@@ -60,19 +57,18 @@ returns c =
     let h = c.args.self in
     let fit = c.requires.whole_log.1 in
     let more = c.requires.whole_log.2 in
-    let k = c.entry_task-k in
-    let d = c.entry_demand-d in
+    let entry = c.at-entry in
     let pass = c.pass-self in
     let e = entry_of bs h in
     let is : c.add-self.result ≡ added bs h =
     c.add-self.ensures
-    ∙ ap (λ (x : Booth). demanding x (set (owed x) k.result (get_or (owed x) k.result 0 + d.result))) pass.ensures.state
-    ∙ ap (λ ds. demanding (clock_at h (h.clock.0 + (h.point.0 - h.clock.0))) (set ds k.result (get_or ds k.result 0 + d.result))) (owed_moved h (h.clock.0 + (h.point.0 - h.clock.0)))
-    ∙ ap (λ (n : ℕ). demanding (clock_at h (h.clock.0 + (h.point.0 - h.clock.0))) (set (owed h) n (get_or (owed h) n 0 + d.result))) k.ensures
-    ∙ ap (λ (n : ℕ). demanding (clock_at h (h.clock.0 + (h.point.0 - h.clock.0))) (set (owed h) e.task (get_or (owed h) e.task 0 + n))) d.ensures.0 in
+    ∙ ap (λ (x : Booth). demanding x (set (owed x) entry.result.task (get_or (owed x) entry.result.task 0 + entry.result.demand))) pass.ensures.state
+    ∙ ap (λ ds. demanding (clock_at h (h.clock.0 + (h.point.0 - h.clock.0))) (set ds entry.result.task (get_or ds entry.result.task 0 + entry.result.demand))) (owed_moved h (h.clock.0 + (h.point.0 - h.clock.0)))
+    ∙ ap (λ (n : ℕ). demanding (clock_at h (h.clock.0 + (h.point.0 - h.clock.0))) (set (owed h) n (get_or (owed h) n 0 + entry.result.demand))) entry.ensures.task
+    ∙ ap (λ (n : ℕ). demanding (clock_at h (h.clock.0 + (h.point.0 - h.clock.0))) (set (owed h) e.task (get_or (owed h) e.task 0 + n))) entry.ensures.demand in
     let looked : Looked bs (added bs h) (h.at + 9) c.look-self.result = subst (λ (x : Booth). Looked bs x (h.at + 9) c.look-self.result) is c.look-self.ensures in record {
       fit = (
-        fit_taken bs h fit more c.args.row.now c.requires.clock_in_bounds.0 c.look-self.result looked (omega (arith, d.ensures)),
+        fit_taken bs h fit more c.args.row.now c.requires.clock_in_bounds.0 c.look-self.result looked (omega (arith, entry.ensures.demand, entry.ensures.small)),
         omega (arith, looked.later),
         record { number = ap (λ (x : Booth). x.number) looked.is; promise = ap (λ (x : Booth). x.promise) looked.is; tasks = ap (λ (x : Booth). x.tasks) looked.is },
       );
