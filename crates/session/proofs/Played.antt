@@ -6,7 +6,7 @@ use native.Mathlib.Nat.{zero-add}
 use native.Mathlib.Omega.{arith}
 use lib.ListN.{length, get_or, take, length-map}
 use Rattle.rules.specs.declared.Table.{Table}
-use Rattle.rules.specs.Verdicts.{accepted, Verdict, verdict_in}
+use Rattle.rules.specs.Verdicts.{Verdict}
 use Rattle.base.specs.Refusals.{taken}
 use Rattle.rules.specs.BoothTable.{Line, no_line}
 use Rattle.rules.specs.ArrivalLog.{Log, read_log}
