@@ -3,11 +3,11 @@
 
 ghost use Rattle.std.specs.Prelude.{◌≡◌};
 ghost use Rattle.rules.specs.Files.{files_verdict};
-ghost use Rattle.hallanupp.specs.VerdictInC.{table_verdict, in_c, refused_in_c};
+ghost use Rattle.rules.specs.Verdicts.{verdict_said};
+ghost use Rattle.hallanupp.specs.VerdictInC.{table_verdict, in_c};
 ghost use Rattle.hallanupp.specs.Version.{version};
 
-use crate::parts::in_c;
-use base::Refusal;
+use rules::Refused;
 
 mod panels;
 mod parts;
@@ -26,13 +26,27 @@ pub struct CVerdict {
     pub place: u64,
 }
 
-fn c_verdict(refused: u32, refusal: Refusal) -> CVerdict
-    ensures { result ≡ refused_in_c refused refusal }
-{
-    CVerdict {
-        refused,
-        number: refusal.number,
-        place: refusal.place as u64,
+// Nothing is refused.
+const ACCEPTED: CVerdict = CVerdict {
+    refused: 0,
+    number: 0,
+    place: 0,
+};
+
+impl From<Refused> for CVerdict {
+    ghost from_gives = { λ why verdict. verdict ≡ in_c (verdict_said why) };
+
+    fn from(why: Refused) -> Self {
+        let (refused, refusal) = match why {
+            Refused::Table(refusal) => (1, refusal),
+            Refused::Log(refusal) => (2, refusal),
+            Refused::Call(refusal) => (3, refusal),
+        };
+        CVerdict {
+            refused,
+            number: refusal.reason.number(),
+            place: refusal.place as u64,
+        }
     }
 }
 
@@ -47,22 +61,18 @@ pub extern "C" fn hallanupp_version() -> u32
 pub extern "C" fn hallanupp_table_verdict(table: &[u8]) -> CVerdict
     ensures { result ≡ in_c (table_verdict table.now) }
 {
-    let read = table::read_table(table);
-    let found = read.refusal;
-    if found.number != 0 {
-        return c_verdict(1, found);
+    match table::read_table(table) {
+        Ok(_) => ACCEPTED,
+        Err(refusal) => CVerdict::from(Refused::Table(refusal)),
     }
-    let nothing = Refusal {
-        number: 0,
-        place: 0,
-    };
-    c_verdict(0, nothing)
 }
 
 #[unsafe(no_mangle)]
 pub extern "C" fn hallanupp_files_verdict(table: &[u8], log: &[u8]) -> CVerdict
     ensures { result ≡ in_c (files_verdict table.now log.now) }
 {
-    let files = files::read_files(table, log);
-    in_c(files.verdict)
+    match files::read_files(table, log) {
+        Ok(_) => ACCEPTED,
+        Err(why) => CVerdict::from(why),
+    }
 }

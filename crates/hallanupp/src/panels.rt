@@ -3,8 +3,7 @@ ghost use Rattle.std.specs.Prelude.{◌≡◌};
 ghost use Rattle.rules.specs.Panel as page;
 ghost use Rattle.hallanupp.specs.PanelInC.{panel_in_c, reading_in_c, held_tick};
 
-use crate::CVerdict;
-use crate::parts::in_c;
+use crate::{ACCEPTED, CVerdict};
 use panel::Reading;
 use rules::{LONGEST_SESSION, WallTick};
 
@@ -48,15 +47,18 @@ fn held_tick(t: usize) -> WallTick
 pub extern "C" fn hallanupp_panel(table: &[u8], wall: &[u8], booth: usize, t: usize) -> CPanelRow
     ensures { result ≡ panel_in_c (page.panel table.now wall.now booth t) }
 {
-    let row = panel::panel(table, wall, booth, held_tick(t));
-    let said = row.verdict;
-    let read = row.reading;
-    let verdict = in_c(said);
-    let reading = reading_number(read);
-    CPanelRow {
-        verdict,
-        promised: row.promised,
-        got: row.got,
-        reading,
+    match panel::panel(table, wall, booth, held_tick(t)) {
+        Ok(row) => CPanelRow {
+            verdict: ACCEPTED,
+            promised: row.promised,
+            got: row.got,
+            reading: reading_number(row.reading),
+        },
+        Err(why) => CPanelRow {
+            verdict: CVerdict::from(why),
+            promised: 0.0,
+            got: 0.0,
+            reading: reading_number(Reading::NoneYet),
+        },
     }
 }

@@ -5,8 +5,7 @@ ghost use Rattle.rules.specs.SoloPart.{ask_solo};
 ghost use Rattle.hallanupp.specs.VerdictInC.{in_c};
 ghost use Rattle.hallanupp.specs.RowInC.{row_in_c};
 
-use crate::{CVerdict, c_verdict};
-use rules::{Refused, Verdict};
+use crate::{ACCEPTED, CVerdict};
 
 // The row's first byte in the caller's own record, and how many bytes it is long; 0 and 0 where the call is refused.
 #[repr(C)]
@@ -15,19 +14,6 @@ pub struct CRow {
     pub verdict: CVerdict,
     pub start: u64,
     pub count: u64,
-}
-
-pub fn in_c(verdict: Verdict) -> CVerdict
-    ensures { result ≡ in_c verdict }
-{
-    let refusal = verdict.refusal;
-    let refused = verdict.refused;
-    match refused {
-        Refused::Nothing => c_verdict(0, refusal),
-        Refused::TheTable => c_verdict(1, refusal),
-        Refused::TheLog => c_verdict(2, refusal),
-        Refused::TheCall => c_verdict(3, refusal),
-    }
 }
 
 #[unsafe(no_mangle)]
@@ -41,7 +27,10 @@ pub extern "C" fn hallanupp_solo_part(
     ensures verdict { result ≡ in_c (ask_solo table.now log.now booth n part.old).verdict }
     ensures buffer { part.new ≡ (ask_solo table.now log.now booth n part.old).buffer }
 {
-    in_c(solo::solo_part(table, log, booth, n, part))
+    match solo::solo_part(table, log, booth, n, part) {
+        Ok(()) => ACCEPTED,
+        Err(why) => CVerdict::from(why),
+    }
 }
 
 #[unsafe(no_mangle)]
@@ -49,17 +38,16 @@ pub extern "C" fn hallanupp_row_back(own: &[u8], h: usize, booth: usize, count: 
     ensures row { result ≡ row_in_c h booth count (row_back own.now h booth count).verdict }
     ensures part { take result.count (drop result.start own.now) ≡ (row_back own.now h booth count).part }
 {
-    let verdict = in_c(rows::row_verdict(own, h, booth, count));
-    if verdict.refused != 0 {
+    if let Err(why) = rows::row_verdict(own, h, booth, count) {
         return CRow {
-            verdict,
+            verdict: CVerdict::from(why),
             start: 0,
             count: 0,
         };
     }
     let start = booth * h;
     CRow {
-        verdict,
+        verdict: ACCEPTED,
         start: start as u64,
         count: count as u64,
     }

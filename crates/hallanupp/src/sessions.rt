@@ -1,11 +1,9 @@
 // A whole session into two lent records.
 ghost use Rattle.std.specs.Prelude.{◌≡◌};
 ghost use Rattle.rules.specs.Session as page;
-ghost use Rattle.session.specs.SessionAnswered.{answered};
 ghost use Rattle.hallanupp.specs.SessionInC.{session_in_c};
 
-use crate::CVerdict;
-use crate::parts::in_c;
+use crate::{ACCEPTED, CVerdict};
 use rules::BOOTHS_ALLOWED;
 
 // The verdict, the number of booths, each booth's final own clock and worked ticks, the idle ticks and H; zeros behind the last booth.
@@ -27,21 +25,26 @@ pub extern "C" fn hallanupp_session(
     wall: &mut [u8],
     own: &mut [u8],
 ) -> CSession
-    ensures answer { result ≡ session_in_c (answered (page.session table.now log.now wall.old own.old)) }
+    ensures answer { result ≡ session_in_c (page.session table.now log.now wall.old own.old) }
     ensures wall { wall.new ≡ (page.session table.now log.now wall.old own.old).wall }
     ensures own { own.new ≡ (page.session table.now log.now wall.old own.old).own }
 {
-    let answer = session::session(table, log, wall, own);
-    let said = answer.verdict;
-    let verdict = in_c(said);
-    let clocks = answer.clocks;
-    let worked = answer.worked;
-    CSession {
-        verdict,
-        booths: answer.booths as u64,
-        clocks,
-        worked,
-        idle: answer.idle,
-        wall_ticks: answer.horizon,
+    match session::session(table, log, wall, own) {
+        Ok(answer) => CSession {
+            verdict: ACCEPTED,
+            booths: answer.booths as u64,
+            clocks: answer.clocks,
+            worked: answer.worked,
+            idle: answer.idle,
+            wall_ticks: answer.horizon,
+        },
+        Err(why) => CSession {
+            verdict: CVerdict::from(why),
+            booths: 0,
+            clocks: [0; BOOTHS_ALLOWED],
+            worked: [0; BOOTHS_ALLOWED],
+            idle: 0,
+            wall_ticks: 0,
+        },
     }
 }
