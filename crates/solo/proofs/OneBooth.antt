@@ -9,7 +9,7 @@ use Rattle.rules.specs.Due.{due}
 use Rattle.rules.specs.Values.{lines_held, no_held_line}
 use Rattle.rules.proofs.Fitting.{fit_sound}
 use Rattle.files.specs.declared.Files.{Files}
-use Rattle.files.specs.Told.{FilesTaken}
+use Rattle.files.specs.FilesTaken.{FilesTaken}
 use Rattle.laws.proofs.DueLaws.{due_at_most}
 use Rattle.solo.specs.Alone.{Alone}
 use Rattle.solo.proofs.Calls.{promise_in}
