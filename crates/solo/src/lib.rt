@@ -121,7 +121,7 @@ impl Player {
     }
 }
 
-// The own ticks that are asked, where none of these refuses the call: an absent booth, more own ticks than are due by the session's end, a buffer too short for them.
+// The own ticks that a call asks, or its refusal: an absent booth, more own ticks than are due by the session's end, a buffer too short for them.
 fn own_ticks_asked(files: &Files, booth: usize, n: usize, room: usize) -> Result<OwnTick, Refusal>
     requires { FitTable files.now.table }
     ensures fault { (buffer : List ℕ) → length buffer ≡ room → fault_in result ≡ first_fault (page.solo_checks (lines_held files.now.table) files.now.horizon booth n buffer) }
