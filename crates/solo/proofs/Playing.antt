@@ -200,7 +200,7 @@ module _ (b : SoloBooth) where
         ∙ alike (λ k. ltb 0 (get_or p.left k 0)) (λ k. ltb (count k (solo l es u)) (asked l es u k)) line.tasks 0 (λ k h. asks k (omega arith))
         ∙ ap (λ m. first_that (λ k. ltb (count k (solo l es u)) (asked l es u k)) m 0) (sym tasks_are)
 
-    pub task_picked : tick ≢ nobody → (tick < line.tasks) × (0 < get_or p.left tick 0)
+    task_picked : tick ≢ nobody → (tick < line.tasks) × (0 < get_or p.left tick 0)
     unfolding own_tick
     task_picked some = go (found (λ k. ltb (count k (solo l es u)) (asked l es u k)) (length l.longest) 0)
       where
@@ -209,13 +209,6 @@ module _ (b : SoloBooth) where
         go (inr z) =
             let below : tick < line.tasks = omega (arith, tasks_are, z.0) in
             (below, ltb-true 0 (get_or p.left tick 0) (asks tick below ∙ z.1))
-
-    pub tick_small : tick ≤ nobody
-    tick_small = go (ℕ_discrete tick nobody)
-      where
-        go : Dec (tick ≡ nobody) → tick ≤ nobody
-        go (yes q) = omega arith
-        go (no q) = omega (arith, (task_picked q).0, a.tasks)
 
     solo_step : solo l es (u + 1) ≡ solo l es u ++ (tick ∷ [])
     unfolding solo own_tick
@@ -232,12 +225,12 @@ module _ (b : SoloBooth) where
       sums = λ n k h j. omega (arith, now.plays.sums n k (omega arith) j, lost k j, ap (count k) solo_step, count_append k (solo l es u) (tick ∷ []));
     }
 
-    pub silent : tick ≡ nobody → Plays b (u + 1) p
+    silent : tick ≡ nobody → Plays b (u + 1) p
     silent z =
         turn p.left now.plays.eight (λ k. omega arith)
         (λ k h. omega (arith, count_other k tick [] (λ q. absurd (omega (arith, a.tasks))), count_nil k))
 
-    pub worked : tick ≢ nobody → Plays b (u + 1) (record { next = p.next; point = p.point; left = set p.left tick (get_or p.left tick 0 - 1) })
+    worked : tick ≢ nobody → Plays b (u + 1) (record { next = p.next; point = p.point; left = set p.left tick (get_or p.left tick 0 - 1) })
     worked some =
         turn after (length-set p.left tick (get_or p.left tick 0 - 1) ∙ now.plays.eight) (λ k. less k (ℕ_discrete k tick)) (λ k h. lost k (ℕ_discrete k tick))
       where
@@ -263,6 +256,22 @@ module _ (b : SoloBooth) where
             )
         lost k (no q) =
             omega (arith, (stored p.left tick (get_or p.left tick 0 - 1) k within).1 q, count_other k tick [] (λ z. q (sym z)), count_nil k)
+
+    -- a task that is found has something left, and plays; where none is found, nobody plays
+    some_task : (k : ℕ) → k ≡ first_task 0 p.left → k < length p.left → tick ≢ nobody
+    some_task k is within z = absurd (omega (arith, z, is, picked, within, now.plays.eight))
+
+    pub task_left : (k : ℕ) → k ≡ first_task 0 p.left → k < length p.left → 0 < get_or p.left k 0
+    task_left k is within = subst (λ j. 0 < get_or p.left j 0) (sym (is ∙ picked)) (task_picked (some_task k is within)).1
+
+    pub task_plays : (k : ℕ) → k ≡ first_task 0 p.left → k < length p.left
+        → Plays b (u + 1) (record { next = p.next; point = p.point; left = set p.left k (get_or p.left k 0 - 1) })
+    task_plays k is within =
+        subst (λ j. Plays b (u + 1) (record { next = p.next; point = p.point; left = set p.left j (get_or p.left j 0 - 1) }))
+        (sym (is ∙ picked)) (worked (some_task k is within))
+
+    pub nobody_plays : nobody ≡ first_task 0 p.left → Plays b (u + 1) p
+    nobody_plays is = silent (sym (is ∙ picked))
 
 -- ---- the part as far as u own ticks
 

@@ -1,22 +1,21 @@
 // The solo part: what a booth plays alone, from its line and its own entries, and without the session's moves.
 #![tactic(auto)]
 
-ghost use Rattle.std.specs.Prelude.{◌≡◌, List, ℕ, ◌+◌, ◌*◌, ◌≤◌, ◌<◌, length, get_or, set};
+ghost use Rattle.std.specs.Prelude.{◌≡◌, List, ℕ, ◌+◌, ◌*◌, ◌≤◌, ◌<◌, IfOk, length, get_or, set};
 ghost use Rattle.base.specs.Bytes.{written};
 ghost use Rattle.rules.specs.Due.{due};
-ghost use Rattle.base.specs.Refusals.{first_fault, fault_of};
+ghost use Rattle.base.specs.Refusals.{first_fault, fault_in};
 ghost use Rattle.rules.specs.SoloPart as page;
 ghost use Rattle.rules.specs.Values.{line_held, lines_held};
 ghost use Rattle.rules.specs.Fit.{FitTable};
+ghost use Rattle.rules.specs.Verdicts.{verdict_in};
 ghost use Rattle.arrivals.specs.Places.{Place, waiting_at};
 ghost use Rattle.solo.specs.Alone.{Alone, Alone-prop, own_tick};
 
-use arrivals::FIRST_ENTRY;
-use base::Fault;
-use rules::{ENTRY_BYTES, Line, OwnTick, Refused, TASKS_ALLOWED, Table, Verdict, WallTick};
-
-// Stands in a part where no task plays; `as`, since From is not called in a constant.
-const NOBODY: usize = rules::NOBODY as usize;
+use arrivals::{Entry, FIRST_ENTRY};
+use base::{Reason, Refusal};
+use files::Files;
+use rules::{ENTRY_BYTES, Line, OwnTick, Refused, TASKS_ALLOWED, WallTick};
 
 // A booth that plays alone, as it stays throughout: the log that was taken, its number and its line.
 #[derive(Clone, Copy)]
@@ -38,8 +37,8 @@ impl<'a> SoloBooth<'a> {
         if self.log.len() <= at {
             return None;
         }
-        let tick = arrivals::entry_tick(self.log, at);
-        Some(rules::due(self.line.promise, tick))
+        let entry = Entry::at(self.log, at);
+        Some(rules::due(self.line.promise, entry.tick))
     }
 
     // The first `n` own ticks, one behind the other.
@@ -83,12 +82,11 @@ impl Player {
         requires { Place booth.now.log.now self.next × (self.next < length booth.now.log.now) × ((k : ℕ) → get_or self.left k 0 ≤ 65535 * 4097) }
         ensures { Passed booth.now self result }
     {
-        let at = self.next;
-        self.next = at + ENTRY_BYTES;
+        let entry = Entry::at(booth.log, self.next);
+        self.next += ENTRY_BYTES;
         self.point = booth.point_of(self.next);
-        if arrivals::entry_booth(booth.log, at) == booth.number {
-            let task = arrivals::entry_task(booth.log, at);
-            self.left[task] += arrivals::entry_demand(booth.log, at);
+        if entry.booth == booth.number {
+            self.left[entry.task] += entry.demand;
         }
         self
     }
@@ -98,7 +96,7 @@ impl Player {
         requires { Plays booth.now u.0 self }
         ensures { Admitted booth.now u.0 result }
     {
-        'entries: while self.point.is_some_and(|point| point.0 <= u.0) {
+        while self.point.is_some_and(|point| point.0 <= u.0) {
             self = self.pass(booth);
         }
         self
@@ -111,57 +109,55 @@ impl Player {
         ensures byte { part.new ≡ set part.old u.0 (own_tick (line_held booth.now.line) (waiting_at booth.now.log.now booth.now.number 9) u.0) }
     {
         self = self.admit(booth, u);
-        let task = rules::first_task(self.left);
         // `as`, since there is no From between these sizes, and a TryFrom would answer an error that cannot come.
-        part[u.0 as usize] = task as u8;
-        if task != NOBODY {
-            self.left[task] -= 1;
-        }
+        part[u.0 as usize] = match rules::first_task(&self.left) {
+            Some(task) => {
+                self.left[task] -= 1;
+                task as u8
+            }
+            None => rules::NOBODY,
+        };
         self
     }
 }
 
-// An absent booth, more own ticks than are due by the session's end, a buffer too short for them.
-fn call_fault(table: Table, horizon: u32, booth: usize, n: usize, room: usize) -> Fault
-    requires { FitTable table }
-    ensures { (buffer : List ℕ) → length buffer ≡ room → result ≡ fault_of (first_fault (page.solo_checks (lines_held table) horizon booth n buffer)) }
+// The own ticks that a call asks, or its refusal: an absent booth, more own ticks than are due by the session's end, a buffer too short for them.
+fn own_ticks_asked(files: &Files, booth: usize, n: usize, room: usize) -> Result<OwnTick, Refusal>
+    requires { FitTable files.now.table }
+    ensures fault { (buffer : List ℕ) → length buffer ≡ room → fault_in result ≡ first_fault (page.solo_checks (lines_held files.now.table) files.now.horizon booth n buffer) }
+    ensures asked { IfOk result (λ asked. asked.0 ≡ n) }
 {
-    if table.booths <= booth {
-        return base::fault_at(base::NO_SUCH_BOOTH_OR_TASK, 0);
+    if files.table.booths <= booth {
+        return Err(Reason::NoSuchBoothOrTask.at(0));
     }
-    let all = rules::due(table.lines[booth].promise, WallTick(horizon));
-    if (all.0 as usize) < n {
-        return base::fault_at(base::DOES_NOT_FIT, 0);
+    let all = rules::due(files.table.lines[booth].promise, WallTick(files.horizon));
+    let Ok(asked) = u32::try_from(n) else {
+        return Err(Reason::DoesNotFit.at(0));
+    };
+    if all.0 < asked || room < n {
+        return Err(Reason::DoesNotFit.at(0));
     }
-    if room < n {
-        return base::fault_at(base::DOES_NOT_FIT, 0);
-    }
-    Fault::Nothing
+    Ok(OwnTick(asked))
 }
 
 // The first `n` own ticks of a booth's solo part, for any bytes as table and log; the buffer's other bytes keep what they held.
-pub fn solo_part(table: &[u8], log: &[u8], booth: usize, n: usize, part: &mut [u8]) -> Verdict
-    ensures verdict { result ≡ (page.ask_solo table.now log.now booth n part.old).verdict }
+pub fn solo_part(
+    table: &[u8],
+    log: &[u8],
+    booth: usize,
+    n: usize,
+    part: &mut [u8],
+) -> Result<(), Refused>
+    ensures verdict { verdict_in result ≡ (page.ask_solo table.now log.now booth n part.old).verdict }
     ensures buffer { part.new ≡ (page.ask_solo table.now log.now booth n part.old).buffer }
 {
-    let files = files::read_files(table, log);
-    let verdict = files.verdict;
-    let refusal = verdict.refusal;
-    if refusal.number != 0 {
-        return verdict;
-    }
-    let held = files.table;
-    if let Fault::Found(call_refusal) = call_fault(held, files.horizon, booth, n, part.len()) {
-        return Verdict {
-            refused: Refused::TheCall,
-            refusal: call_refusal,
-        };
-    }
+    let files = files::read_files(table, log)?;
+    let asked = own_ticks_asked(&files, booth, n, part.len()).map_err(Refused::Call)?;
     let alone = SoloBooth {
         log,
         number: booth,
-        line: held.lines[booth],
+        line: files.table.lines[booth],
     };
-    alone.write_part(OwnTick(n as u32), part);
-    verdict
+    alone.write_part(asked, part);
+    Ok(())
 }

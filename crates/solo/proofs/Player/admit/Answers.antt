@@ -4,7 +4,7 @@ use Rattle.std.proofs.Common.{rules}
 use Rattle.solo.proofs.Playing.{there, plays_on}
 use Rattle.solo.proofs.Player.admit.Goals as goal
 
-pub entries-preserved : goal.entries-preserved
-entries-preserved c =
-    let reached : IsSomeAnd c.entries.self.point (λ point. point.0 ≤ c.args.u.0) = search rules in
-    plays_on _ _ _ _ c.entries.invariant reached (there _ _ _ c.entries.invariant reached) c.pass-self.ensures
+pub loop-u-preserved : goal.loop-u-preserved
+loop-u-preserved c =
+    let reached : IsSomeAnd c.loop-u.self.point (λ point. point.0 ≤ c.args.u.0) = search rules in
+    plays_on _ _ _ _ c.loop-u.invariant reached (there _ _ _ c.loop-u.invariant reached) c.pass-self.ensures

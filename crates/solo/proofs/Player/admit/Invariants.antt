@@ -4,8 +4,8 @@ use lib.ListN.{length}
 use Rattle.solo.specs.Played.{Plays}
 use Rattle.solo.proofs.Player.admit.Given as goal
 
-abbrev pub invariant-entries : goal.invariant-entries
-invariant-entries l = Plays l.booth l.u.0 l.self
+abbrev pub invariant-loop-u : goal.invariant-loop-u
+invariant-loop-u l = Plays l.booth l.u.0 l.self
 
-abbrev pub decreases-entries : goal.decreases-entries
-decreases-entries l = length l.booth.log.now - l.self.next
+abbrev pub decreases-loop-u : goal.decreases-loop-u
+decreases-loop-u l = length l.booth.log.now - l.self.next
