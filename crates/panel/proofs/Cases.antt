@@ -88,6 +88,14 @@ module _ (p : Promise) (worked t : ℕ) where
   unfolding panel_row
   row_read e = rw (ne_eqb t 0 e, panel_row)
 
+  pub row_accepted : (panel_row p worked t).verdict ≡ accepted
+  unfolding panel_row
+  row_accepted = go (eqb t 0) refl
+    where
+      go : (b : Bool) → eqb t 0 ≡ b → (panel_row p worked t).verdict ≡ accepted
+      go true q = rw (q, panel_row)
+      go false q = rw (q, panel_row)
+
 -- ---- the panel
 
 module _ (table wall : List ℕ) (booth t : ℕ) where
