@@ -96,6 +96,8 @@ fn worked_ticks(wall: &[u8], booth: usize, t: u32) -> u32
     worked
 }
 
+// As worked compares with due.
+#[tactic(auto, using(std::proofs::lemmas::Cmp::ranked), unfolding(crate::specs::Shown::shown_reading, rules::specs::Panel::reading_of))]
 fn reading_of(worked: u32, due: u32, got: f64) -> Reading
     ensures { result ≡ shown_reading (page.reading_of worked due got) }
 {
@@ -107,6 +109,7 @@ fn reading_of(worked: u32, due: u32, got: f64) -> Reading
 }
 
 // The row of a booth that worked so many of the first `t` ticks.
+#[tactic(auto, unfolding(crate::specs::Shown::shown_row, crate::specs::Shown::shown_reading, rules::specs::Panel::panel_row, rules::specs::Panel::no_share))]
 fn panel_row(promise: Promise, worked: u32, t: u32) -> PanelRow
     requires { Sound promise }
     ensures { result ≡ shown_row (page.panel_row promise worked t) }

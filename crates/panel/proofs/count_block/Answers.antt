@@ -2,7 +2,7 @@
 -- they were. Assumes nothing.
 use mathlib.Core.Path.{refl}
 use native.Mathlib.Omega.{arith}
-use Rattle.panel.proofs.Lanes.{none_counted, all_counted, lane_counts, one_at_most}
+use Rattle.panel.proofs.Lanes.{none_counted, lane_counts}
 use Rattle.panel.proofs.count_block.Goals as goal
 
 pub loop-i-init : goal.loop-i-init

@@ -1,6 +1,6 @@
 -- `panel::worked_in` meets its contract. The loop's invariant: the blocks passed are counted, at most once in each lane. Assumes nothing.
-use Rattle.std.proofs.Common.{◌≡◌, ◌<◌, ◌*◌, ◌/◌, length, drop, ap, ◌∙◌, arith, length-take}
-use Rattle.panel.proofs.Lanes.{none_yet, lanes_below, next_block, part_counted, block_is}
+use Rattle.std.proofs.Common.{◌≡◌, ◌<◌, ◌*◌, ◌/◌, length, drop, ap, ◌∙◌, arith}
+use Rattle.panel.proofs.Lanes.{none_yet, next_block, part_counted, block_is}
 use Rattle.panel.proofs.worked_in.Goals as goal
 
 pub loop-block-init : goal.loop-block-init
