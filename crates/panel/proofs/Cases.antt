@@ -5,10 +5,9 @@ use mathlib.Core.Option.{Option, none, some}
 use Prim.Native.Nat.{ℕ, suc, ◌+◌, ◌^◌, ◌≤◌, ◌<◌}
 use native.Mathlib.Nat.{le_trans, lt_of_le_of_lt, lt_irrefl}
 use native.Mathlib.Omega.{arith}
-use borrow.Author.Tests.{eq-eqb, ne_eqb, lt-ltb, le-ltb, le-leb, lt-leb, ltb-false}
+use borrow.Author.Tests.{ne_eqb, lt-ltb, le-ltb, le-leb, lt-leb, ltb-false}
 use lib.Dec.{lit<, eqb}
 use lib.Pow.{pow_pos}
-use lib.Ieee.{Float}
 use lib.ListN.{length, take, drop, get_or, length-take, take-append-drop}
 use Rattle.std.specs.List.{count_by}
 use Rattle.std.proofs.lemmas.List.Sums.{sum_by-cons, sum_by_more}
@@ -20,7 +19,7 @@ use Rattle.rules.specs.BoothTable.{Line, no_line}
 use Rattle.rules.specs.Admission.{read_table}
 use Rattle.rules.specs.Due.{due}
 use Rattle.rules.specs.Session.{count}
-use Rattle.rules.specs.Panel.{share, no_share, none_yet, below, at_ceiling, over, reading_of, panel_row, no_panel, panel_checks, panel}
+use Rattle.rules.specs.Panel.{share, reading_of, panel_row, no_panel, panel_checks, panel}
 use Rattle.base.proofs.Checks.{passed}
 use Rattle.rules.proofs.Counting.{count_nil, count_other, count_append, count_most}
 use Rattle.panel.specs.Exact.{ExactShare, ExactAtPowers, ExactPanel}
@@ -57,36 +56,21 @@ part_more k part rest e worked h = omega (arith, h, ap (count k) e, count_append
 pub worked_le : (k t : ℕ) (wall : List ℕ) → count k (take t wall) ≤ t
 worked_le k t wall = omega (arith, count_most k (take t wall), length-take t wall)
 
--- ---- the reading
-
-module _ (worked dueThen : ℕ) (got : Float) where
-  pub reading_below : worked < dueThen → reading_of worked dueThen got ≡ below got
-  unfolding reading_of
-  reading_below h = rw (lt-ltb worked dueThen h, reading_of)
-
-  pub reading_at_ceiling : worked ≡ dueThen → reading_of worked dueThen got ≡ at_ceiling got
-  unfolding reading_of
-  reading_at_ceiling e =
-      let least : dueThen ≤ worked = omega arith in
-      rw (le-ltb worked dueThen least, reading_of) (rw (eq-eqb worked dueThen e))
-
-  pub reading_over : dueThen < worked → reading_of worked dueThen got ≡ over got
-  unfolding reading_of
-  reading_over h =
-      let least : dueThen ≤ worked = omega arith in
-      rw (le-ltb worked dueThen least, reading_of) (rw (ne_eqb worked dueThen (λ e. omega arith)))
-
 -- ---- the row
 
 module _ (p : Promise) (worked t : ℕ) where
-  pub row_none_yet : t ≡ 0 → panel_row p worked t ≡ record { verdict = accepted; promised = share p.allowance p.period; got = no_share; reading = none_yet }
-  unfolding panel_row
-  row_none_yet e = rw (eq-eqb t 0 e, panel_row)
-
   pub row_read : (t ≡ 0 → ⊥)
       → panel_row p worked t ≡ record { verdict = accepted; promised = share p.allowance p.period; got = share worked t; reading = reading_of worked (due p t) (share worked t) }
   unfolding panel_row
   row_read e = rw (ne_eqb t 0 e, panel_row)
+
+  pub row_accepted : (panel_row p worked t).verdict ≡ accepted
+  unfolding panel_row
+  row_accepted = go (eqb t 0) refl
+    where
+      go : (b : Bool) → eqb t 0 ≡ b → (panel_row p worked t).verdict ≡ accepted
+      go true q = rw (q, panel_row)
+      go false q = rw (q, panel_row)
 
 -- ---- the panel
 

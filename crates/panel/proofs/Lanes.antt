@@ -7,14 +7,14 @@ use native.Mathlib.Omega.{arith}
 use mir.Val.{bool_byte}
 use lib.Dec.{eqb}
 use lib.ListN.{length, take, drop, set, get_or, replicate, length-set, take-append-drop}
-use lib.Seq.{take-add, take_all, get_or-set_other}
+use lib.Seq.{take-add, get_or-set_other}
 use Rattle.std.specs.List.{sum}
 use Rattle.std.specs.Simd.{first_chunks}
 use Rattle.std.proofs.lemmas.List.{drop-drop}
 use Rattle.std.proofs.lemmas.List.Sums.{sum_by-set}
 use Rattle.std.proofs.lemmas.List.Folds.{sum_by-replicate}
 use Rattle.rules.specs.Session.{count}
-use Rattle.panel.specs.Lanes.{EachBelow, OneMore}
+use Rattle.panel.specs.Lanes.{OneMore}
 use Rattle.rules.proofs.Counting.{count_nil, count_append}
 use Rattle.rules.proofs.Held.{at_set}
 use Rattle.panel.proofs.Cases.{count_more}
@@ -24,7 +24,7 @@ hit_or_not : (b : Bool) → bool_byte b ≡ cond b 1 0
 hit_or_not true = refl
 hit_or_not false = refl
 
-pub one_at_most : (b : Bool) {hit : ℕ} → hit ≡ bool_byte b → hit ≤ 1
+one_at_most : (b : Bool) {hit : ℕ} → hit ≡ bool_byte b → hit ≤ 1
 one_at_most true h = omega (arith, h)
 one_at_most false h = omega (arith, h)
 
@@ -37,9 +37,6 @@ pub record Counted (k : ℕ) (before block : List ℕ) (i : ℕ) (lanes : List �
 module _ (k : ℕ) (before block : List ℕ) where
   pub none_counted : Counted k before block 0 before
   none_counted = record { together = omega (arith, count_nil k); each = (refl, λ i. omega arith); behind = λ j h. refl }
-
-  pub all_counted : {i : ℕ} {lanes : List ℕ} → Counted k before block i lanes → length block ≤ i → sum lanes ≡ sum before + count k block
-  all_counted {i} {lanes} d h = d.together ∙ ap (λ xs. sum before + count k xs) (take_all i block h)
 
   -- the next lane counts on, by 1 where the booth stands there
   pub lane_counts : {i : ℕ} {lanes : List ℕ} → Counted k before block i lanes → i < length before → i < length block → (v hit : ℕ) → v ≡ get_or lanes i 0 + hit
@@ -85,10 +82,6 @@ module _ (k : ℕ) (part : List ℕ) where
       zero_at (suc n) (suc i) = zero_at n i
 
   module _ {n : ℕ} {lanes : List ℕ} (d : Counting k part n lanes) where
-    -- 255 blocks fill a lane
-    pub lanes_below : n < 255 → EachBelow 255 lanes
-    lanes_below h = (d.whole, λ i. omega (arith, d.each i))
-
     pub next_block : (block : List ℕ) → block ≡ take 128 (drop (n * 128) part) → (after : List ℕ) → OneMore lanes after → sum after ≡ sum lanes + count k block
         → Counting k part (n + 1) after
     next_block block is after grown added =

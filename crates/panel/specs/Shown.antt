@@ -12,6 +12,6 @@ shown_reading (below got) = Below got
 shown_reading (at_ceiling got) = AtCeiling got
 shown_reading (over got) = Over got
 
--- number and place, the two shares, and the reading
+-- the two shares and the reading; the verdict is said beside it
 unfoldable pub shown_row : page.PanelRow → PanelRow
-shown_row p = record { verdict = p.verdict; promised = p.promised; got = p.got; reading = shown_reading p.reading }
+shown_row p = record { promised = p.promised; got = p.got; reading = shown_reading p.reading }

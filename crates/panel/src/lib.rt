@@ -1,10 +1,8 @@
 // The panel: a booth's two shares and their reading.
 #![tactic(auto)]
 
-ghost use Rattle.std.specs.Prelude.{◌≡◌, ◌+◌, ◌≤◌, ◌<◌, length, take, sum};
-ghost use Rattle.rules.specs.Verdicts.{TheCall};
-ghost use Rattle.base.specs.Refusals.{refusal};
-ghost use Rattle.rules.specs.Verdicts.{refused_as};
+ghost use Rattle.std.specs.Prelude.{◌≡◌, ◌+◌, ◌≤◌, ◌<◌, length, take, sum, IfOk};
+ghost use Rattle.rules.specs.Verdicts.{verdict_in};
 ghost use Rattle.rules.specs.InRange.{Sound};
 ghost use Rattle.rules.specs.Session as session;
 ghost use Rattle.rules.specs.Panel as page;
@@ -12,8 +10,8 @@ ghost use Rattle.panel.specs.Exact.{ExactAtPowers};
 ghost use Rattle.panel.specs.Lanes.{EachBelow, OneMore};
 ghost use Rattle.panel.specs.Shown.{shown_reading, shown_row};
 
-use base::Refusal;
-use rules::{LONGEST_SESSION, Promise, Refused, Verdict, WallTick};
+use base::Reason;
+use rules::{LONGEST_SESSION, Promise, Refused, WallTick};
 use std::cmp::Ordering;
 
 // None yet, or how worked stands to due, with the share got.
@@ -28,7 +26,6 @@ pub enum Reading {
 // The two shares of one booth, beside their reading.
 #[derive(Clone, Copy)]
 pub struct PanelRow {
-    pub verdict: Verdict,
     pub promised: f64,
     pub got: f64,
     pub reading: Reading,
@@ -99,6 +96,8 @@ fn worked_ticks(wall: &[u8], booth: usize, t: u32) -> u32
     worked
 }
 
+// As worked compares with due.
+#[tactic(auto, using(std::proofs::lemmas::Cmp::ranked), unfolding(crate::specs::Shown::shown_reading, rules::specs::Panel::reading_of))]
 fn reading_of(worked: u32, due: u32, got: f64) -> Reading
     ensures { result ≡ shown_reading (page.reading_of worked due got) }
 {
@@ -110,15 +109,14 @@ fn reading_of(worked: u32, due: u32, got: f64) -> Reading
 }
 
 // The row of a booth that worked so many of the first `t` ticks.
+#[tactic(auto, unfolding(crate::specs::Shown::shown_row, crate::specs::Shown::shown_reading, rules::specs::Panel::panel_row, rules::specs::Panel::no_share))]
 fn panel_row(promise: Promise, worked: u32, t: u32) -> PanelRow
     requires { Sound promise }
     ensures { result ≡ shown_row (page.panel_row promise worked t) }
 {
-    let verdict = rules::accepted();
     let promised = share(promise.allowance, promise.period);
     if t == 0 {
         return PanelRow {
-            verdict,
             promised,
             got: 0.0,
             reading: Reading::NoneYet,
@@ -128,53 +126,28 @@ fn panel_row(promise: Promise, worked: u32, t: u32) -> PanelRow
     let got = share(worked, t);
     let reading = reading_of(worked, due.0, got);
     PanelRow {
-        verdict,
         promised,
         got,
         reading,
     }
 }
 
-// A refusal: both shares 0 and the reading none yet.
-fn no_panel(refused: Refused, refusal: Refusal) -> PanelRow
-    ensures { result ≡ shown_row (page.no_panel (refused_as refused refusal)) }
-{
-    let verdict = Verdict { refused, refusal };
-    PanelRow {
-        verdict,
-        promised: 0.0,
-        got: 0.0,
-        reading: Reading::NoneYet,
-    }
-}
-
-fn call_refused(number: u32) -> PanelRow
-    ensures { result ≡ shown_row (page.no_panel (refused_as TheCall (refusal number 0))) }
-{
-    no_panel(Refused::TheCall, Refusal { number, place: 0 })
-}
-
 // The panel row of a booth after `t` wall ticks, for any bytes as table and wall record.
-pub fn panel(table: &[u8], wall: &[u8], booth: usize, t: WallTick) -> PanelRow
-    ensures { result ≡ shown_row (page.panel table.now wall.now booth t.0) }
+pub fn panel(table: &[u8], wall: &[u8], booth: usize, t: WallTick) -> Result<PanelRow, Refused>
+    ensures verdict { verdict_in result ≡ (page.panel table.now wall.now booth t.0).verdict }
+    ensures row { IfOk result (λ row. row ≡ shown_row (page.panel table.now wall.now booth t.0)) }
 {
-    let answer = table::read_table(table);
-    let refusal = answer.refusal;
-    if refusal.number != 0 {
-        return no_panel(Refused::TheTable, refusal);
-    }
-    let held = answer.table;
+    let held = table::read_table(table).map_err(Refused::Table)?;
     if held.booths <= booth {
-        return call_refused(base::NO_SUCH_BOOTH_OR_TASK);
+        return Err(Refused::Call(Reason::NoSuchBoothOrTask.at(0)));
     }
+    // `as`, since `usize` is no `From<u32>`.
     if wall.len() < t.0 as usize {
-        return call_refused(base::DOES_NOT_FIT);
+        return Err(Refused::Call(Reason::DoesNotFit.at(0)));
     }
     if LONGEST_SESSION < t.0 {
-        return call_refused(base::DOES_NOT_FIT);
+        return Err(Refused::Call(Reason::DoesNotFit.at(0)));
     }
-    let lines = held.lines;
-    let line = lines[booth];
-    let promise = line.promise;
-    panel_row(promise, worked_ticks(wall, booth, t.0), t.0)
+    let promise = held.lines[booth].promise;
+    Ok(panel_row(promise, worked_ticks(wall, booth, t.0), t.0))
 }

@@ -2,22 +2,11 @@
 -- they were. Assumes nothing.
 use mathlib.Core.Path.{refl}
 use native.Mathlib.Omega.{arith}
-use Rattle.panel.proofs.Lanes.{none_counted, all_counted, lane_counts, one_at_most}
+use Rattle.panel.proofs.Lanes.{none_counted, lane_counts}
 use Rattle.panel.proofs.count_block.Goals as goal
 
 pub loop-i-init : goal.loop-i-init
 loop-i-init c = none_counted c.args.booth c.args.lanes.now c.args.block.now
 
-pub overflow_add-lanes : goal.overflow_add-lanes
-overflow_add-lanes c =
-    let i = c.loop-i.i in
-    record { fits = omega (arith, c.loop-i.invariant.behind i (omega arith), c.requires.1.1 i, one_at_most _ c.from.ensures) }
-
 pub loop-i-preserved : goal.loop-i-preserved
 loop-i-preserved c = lane_counts _ _ _ c.loop-i.invariant (omega (arith, c.requires.1.0)) (omega arith) _ _ refl c.from.ensures
-
-pub returns : goal.returns
-returns c = record {
-  sum = all_counted _ _ _ c.loop-i.invariant (omega arith);
-  each = c.loop-i.invariant.each;
-}

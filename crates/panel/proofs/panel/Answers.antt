@@ -1,46 +1,96 @@
 -- `panel::panel` meets its contract: each return is the case of the rules' panel that the tests before it name. Assumes nothing.
-use mathlib.Core.Path.{sym, ap, ◌∙◌}
-use Prim.Native.Nat.{◌<◌}
-use native.Mathlib.Omega.{arith}
-use lib.ListN.{length, take, get_or}
+use Rattle.std.proofs.Common.{rules, ◌≡◌, ◌<◌, ◌≤◌, refl, sym, ap, ◌∙◌, arith, length, take, get_or, Result, Ok, Err}
+use Rattle.std.proofs.lemmas.Result.{err_from_is_err_and}
+use Rattle.base.specs.declared.Refusal.{Refusal as HeldRefusal}
+use Rattle.base.specs.Refusals.{said, number_of}
+use Rattle.base.proofs.Checks.{ok_once, ok_not_err}
+use Rattle.rules.specs.declared.Refused.TheVariants.{Table}
+use Rattle.rules.specs.declared.Table.{Table as HeldTable}
+use Rattle.rules.specs.Fit.{FitTable}
+use Rattle.rules.specs.Panel as page
 use Rattle.rules.specs.Session.{count}
-use Rattle.rules.specs.Panel.{panel_row}
 use Rattle.rules.specs.Values.{no_held_line}
-use Rattle.table.proofs.Numbers.{answer_taken, answer_refused, taken_booths, taken_promise}
-use Rattle.panel.specs.Shown.{shown_row}
+use Rattle.rules.specs.Verdicts.{verdict_said, verdict_in}
 use Rattle.rules.proofs.Fitting.{fit_sound}
-use Rattle.panel.proofs.Cases.{panel_bad_table, panel_absent, panel_past, panel_long, panel_read}
+use Rattle.table.proofs.TableTaken.{TableTaken, answer_taken, answer_refused, taken_booths, taken_promise}
+use Rattle.panel.specs.Shown.{shown_row}
+use Rattle.panel.proofs.Cases.{panel_bad_table, panel_absent, panel_past, panel_long, panel_read, row_accepted}
 use Rattle.panel.proofs.panel.Goals as goal
+use Rattle.panel.proofs.panel.Goals.{In_ok-held, In_err-held}
 
-pub returns-then-refusal-ne0 : goal.returns-then-refusal-ne0
-returns-then-refusal-ne0 c = c.no_panel.ensures ∙ sym (ap shown_row (panel_bad_table _ _ _ _ _ (answer_refused _ _ c.read_table-answer.ensures.read c.if-refusal-ne0.true)))
+-- the table was refused so
+table_said : (c : In_err-held) → verdict_said c.in_err-held.field-0.0 ≡ (page.panel c.args.table.now c.args.wall.now c.args.booth c.args.t.0).verdict
+unfolding verdict_said page.no_panel
+table_said c = go c.read_table.result refl
+  where
+    go : (r : Result HeldTable HeldRefusal) → c.read_table.result ≡ r
+        → verdict_said c.in_err-held.field-0.0 ≡ (page.panel c.args.table.now c.args.wall.now c.args.booth c.args.t.0).verdict
+    go (Ok t) q = let h = rw q at c.in_err-held.ensures.cases in absurd (ok_not_err (sym h))
+    go (Err e) q =
+        let h = rw q at c.in_err-held.ensures.cases in
+        let why : c.in_err-held.field-0.0 ≡ Table e = search rules in
+        ap verdict_said why ∙ sym (ap (λ p. p.verdict) (panel_bad_table _ _ _ _ _ (answer_refused _ c.read_table.result c.read_table.ensures.read e q)))
 
-pub returns-then-held-booth : goal.returns-then-held-booth
-returns-then-held-booth c =
-    let k = answer_taken _ _ c.read_table-answer.ensures.read c.if-refusal-ne0.false in
-    c.call_refused.ensures ∙ sym (ap shown_row (panel_absent _ _ _ _ k.lines k.read (omega (arith, taken_booths _ _ k, c.if-held-booth.true))))
+pub returns-in_err-held-clause-verdict : goal.returns-in_err-held-clause-verdict
+unfolding verdict_in
+returns-in_err-held-clause-verdict c =
+    let p = err_from_is_err_and c.from_residual.result c.from_residual.ensures.1 in
+    rw (p.1, p.2) (table_said (goal.at.returns-in_err-held-clause-verdict c).In_err-held)
 
-pub returns-then-wall-t : goal.returns-then-wall-t
-returns-then-wall-t c =
-    let k = answer_taken _ _ c.read_table-answer.ensures.read c.if-refusal-ne0.false in
-    c.call_refused-then-wall-t.ensures ∙ sym (ap shown_row (panel_past _ _ _ _ k.lines k.read (omega (arith, taken_booths _ _ k, c.if-held-booth.false)) c.if-wall-t.true))
+-- the table was taken
+module _ (c : In_ok-held) where
+  table_was : c.read_table.result ≡ Ok c.in_ok-held.held
+  table_was = go c.read_table.result refl
+    where
+      go : (r : Result HeldTable HeldRefusal) → c.read_table.result ≡ r → c.read_table.result ≡ Ok c.in_ok-held.held
+      go (Ok t) q = let h = rw q at c.in_ok-held.ensures.cases in q ∙ ap Ok (sym (ok_once h))
+      go (Err e) q = let h = rw q at c.in_ok-held.ensures.cases in absurd h
 
-pub returns-then-t-gt-LONGEST_SESSION : goal.returns-then-t-gt-LONGEST_SESSION
-returns-then-t-gt-LONGEST_SESSION c =
-    let k = answer_taken _ _ c.read_table-answer.ensures.read c.if-refusal-ne0.false in
-    c.call_refused-then-t-gt-LONGEST_SESSION.ensures ∙ sym (ap shown_row (panel_long _ _ _ _ k.lines k.read (omega (arith, taken_booths _ _ k, c.if-held-booth.false)) c.if-wall-t.false c.if-t-gt-LONGEST_SESSION.true))
+  table_taken : TableTaken c.args.table.now c.in_ok-held.held
+  table_taken = answer_taken _ c.read_table.result c.read_table.ensures.read c.in_ok-held.held table_was
+
+  absent : c.in_ok-held.held.booths ≤ c.args.booth → length table_taken.lines ≤ c.args.booth
+  absent h = omega (arith, taken_booths _ _ table_taken, h)
+
+  there : c.args.booth < c.in_ok-held.held.booths → c.args.booth < length table_taken.lines
+  there h = omega (arith, taken_booths _ _ table_taken, h)
+
+pub returns-then-held-booth-clause-verdict : goal.returns-then-held-booth-clause-verdict
+unfolding verdict_in verdict_said said number_of page.no_panel
+returns-then-held-booth-clause-verdict c =
+    let k = (goal.at.returns-then-held-booth-clause-verdict c).In_ok-held in
+    simp (c.at.ensures, panel_absent _ c.args.wall.now _ c.args.t.0 (table_taken k).lines (table_taken k).read (absent k c.if-held-booth.true))
+
+pub returns-then-wall-t-clause-verdict : goal.returns-then-wall-t-clause-verdict
+unfolding verdict_in verdict_said said number_of page.no_panel
+returns-then-wall-t-clause-verdict c =
+    let k = (goal.at.returns-then-wall-t-clause-verdict c).In_ok-held in
+    simp (c.at-then-wall-t.ensures, panel_past _ _ _ _ (table_taken k).lines (table_taken k).read (there k c.if-held-booth.false) c.if-wall-t.true)
+
+pub returns-then-t-gt-LONGEST_SESSION-clause-verdict : goal.returns-then-t-gt-LONGEST_SESSION-clause-verdict
+unfolding verdict_in verdict_said said number_of page.no_panel
+returns-then-t-gt-LONGEST_SESSION-clause-verdict c =
+    let k = (goal.at.returns-then-t-gt-LONGEST_SESSION-clause-verdict c).In_ok-held in
+    simp (c.at-then-t-gt-LONGEST_SESSION.ensures, panel_long _ _ _ _ (table_taken k).lines (table_taken k).read (there k c.if-held-booth.false) c.if-wall-t.false c.if-t-gt-LONGEST_SESSION.true)
 
 pub panel_row-requires : goal.panel_row-requires
 panel_row-requires c =
-    fit_sound _ (c.read_table-answer.ensures.fit.lines.line _ c.if-held-booth.false)
+    let fit : FitTable c.in_ok-held.held = rw (table_was (goal.at.panel_row-requires c).In_ok-held) at c.read_table.ensures.fit in
+    fit_sound _ (fit.lines.line _ c.if-held-booth.false)
 
-pub returns : goal.returns
-returns c =
+pub returns-clause-verdict : goal.returns-clause-verdict
+unfolding verdict_in
+returns-clause-verdict c =
+    let k = (goal.at.returns-clause-verdict c).In_ok-held in
+    sym (ap (λ p. p.verdict) (panel_read _ _ _ _ (table_taken k).lines (table_taken k).read (there k c.if-held-booth.false) c.if-wall-t.false c.if-t-gt-LONGEST_SESSION.false) ∙ row_accepted _ _ _)
+
+pub returns-clause-row : goal.returns-clause-row
+returns-clause-row c =
     let a = c.args in
-    let k = answer_taken _ _ c.read_table-answer.ensures.read c.if-refusal-ne0.false in
-    let there : a.booth < length k.lines = omega (arith, taken_booths _ _ k, c.if-held-booth.false) in
-    let promise = (get_or c.read_table-answer.result.table.lines a.booth no_held_line).promise in
+    let k = (goal.at.returns-clause-row c).In_ok-held in
+    let here = there k c.if-held-booth.false in
+    let promise = (get_or c.in_ok-held.held.lines a.booth no_held_line).promise in
     c.panel_row.ensures
-    ∙ ap (λ n. shown_row (panel_row promise n a.t.0)) c.worked_ticks.ensures
-    ∙ ap (λ p. shown_row (panel_row p (count a.booth (take a.t.0 a.wall.now)) a.t.0)) (taken_promise _ _ k a.booth there)
-    ∙ sym (ap shown_row (panel_read _ _ _ _ k.lines k.read there c.if-wall-t.false c.if-t-gt-LONGEST_SESSION.false))
+    ∙ ap (λ n. shown_row (page.panel_row promise n a.t.0)) c.worked_ticks.ensures
+    ∙ ap (λ p. shown_row (page.panel_row p (count a.booth (take a.t.0 a.wall.now)) a.t.0)) (taken_promise _ _ (table_taken k) a.booth here)
+    ∙ sym (ap shown_row (panel_read _ _ _ _ (table_taken k).lines (table_taken k).read here c.if-wall-t.false c.if-t-gt-LONGEST_SESSION.false))

@@ -1,29 +1,16 @@
 -- `panel::worked_in` meets its contract. The loop's invariant: the blocks passed are counted, at most once in each lane. Assumes nothing.
-use Rattle.std.proofs.Common.{◌≡◌, ◌<◌, ◌*◌, ◌/◌, length, drop, ap, ◌∙◌, arith, length-take}
-use Rattle.panel.proofs.Lanes.{none_yet, lanes_below, next_block, part_counted, block_is}
+use Rattle.std.proofs.Common.{◌≡◌, ◌<◌, ◌*◌, ◌/◌, length, drop, ap, ◌∙◌, arith}
+use Rattle.panel.proofs.Lanes.{none_yet, next_block, part_counted, block_is}
 use Rattle.panel.proofs.worked_in.Goals as goal
 
 pub loop-block-init : goal.loop-block-init
 loop-block-init c = none_yet c.args.booth c.args.part.now
-
-pub count_block-requires : goal.count_block-requires
-count_block-requires c =
-    let n = c.loop-block.block-index in
-    let inside : n < length c.args.part.now / 128 = omega (arith, c.as_chunks.ensures.front_len) in
-    let block = block_is _ c.args.part.now c.as_chunks.ensures.front n inside in (
-      omega (arith, ap length block, length-take 128 (drop (n * 128) c.args.part.now)),
-      lanes_below _ _ c.loop-block.invariant (omega (arith, c.requires)),
-    )
 
 pub loop-block-preserved : goal.loop-block-preserved
 loop-block-preserved c =
     let q = c.count_block.ensures in
     let inside : c.loop-block.block-index < length c.args.part.now / 128 = omega (arith, c.as_chunks.ensures.front_len) in
     next_block _ _ c.loop-block.invariant _ (block_is _ c.args.part.now c.as_chunks.ensures.front c.loop-block.block-index inside) c.count_block.new.lanes q.each q.sum
-
-pub count_block-requires-2 : goal.count_block-requires-2
-count_block-requires-2 c =
-    (omega (arith, c.as_chunks.ensures.back_len), lanes_below _ _ c.loop-block.invariant (omega (arith, c.requires, c.as_chunks.ensures.front_len)))
 
 pub returns : goal.returns
 returns c =

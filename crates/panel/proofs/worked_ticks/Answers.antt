@@ -14,12 +14,6 @@ returns-in_default c =
     let large : a.booth < 256 → ⊥ = c.in_default.ensures in
     sym (count_above a.booth a.t a.wall.now (λ i. omega (arith, c.type_inv.wall i, large)))
 
-pub loop-part-init : goal.loop-part-init
-loop-part-init c = record { can_next = search rules; finite = tt; size = search rules; together = search rules }
-
-pub worked_in-worked-requires : goal.worked_in-worked-requires
-worked_in-worked-requires c = omega (arith, c.in-Some.ensures.steps.1.1, c.loop-part.invariant.size)
-
 pub overflow_add-worked : goal.overflow_add-worked
 overflow_add-worked c =
     let k = c.in-Ok.number in
