@@ -8,7 +8,6 @@ use Rattle.rules.specs.Session as page
 use Rattle.rules.specs.SoloPart.{ask_solo}
 use Rattle.rules.specs.RowBack.{row_back}
 use Rattle.rules.specs.Panel as shares
-use Rattle.session.specs.SessionAnswered.{answered}
 use Rattle.text.specs.TextAnswered.{text_length, with_text}
 use Rattle.hallanupp.specs.OneReply.{Lives, Call, Asks, Tells, Reply, Meets, Replies, OneReply}
 use Rattle.rules.specs.Files.{files_verdict}
@@ -48,7 +47,7 @@ files_reply = record { taken = λ κs a. tt; reply = λ κs a o p i. record { an
 
 pub session_reply : Replies session_c.ended session_r.Asked session_r.Learnt
     (λ κs (table, (log, (wall, (own, _)))). let played = page.session table.now log.now wall.now own.now in
-    record { answer = session_in_c (answered played); left = (tt, (tt, (played.wall, (played.own, tt)))) })
+    record { answer = session_in_c played; left = (tt, (tt, (played.wall, (played.own, tt)))) })
 session_reply = record { taken = λ κs a. tt; reply = λ κs a o p i. record { answer = p.0 i; left = (tt, (tt, (p.1.0 i, (p.1.1 i, tt)))) } }
 
 pub solo_reply : Replies solo_c.ended solo_r.Asked solo_r.Learnt

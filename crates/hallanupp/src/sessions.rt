@@ -30,14 +30,18 @@ pub extern "C" fn hallanupp_session(
     ensures own { own.new ≡ (page.session table.now log.now wall.old own.old).own }
 {
     match session::session(table, log, wall, own) {
-        Ok(answer) => CSession {
-            verdict: ACCEPTED,
-            booths: answer.booths as u64,
-            clocks: answer.clocks,
-            worked: answer.worked,
-            idle: answer.idle,
-            wall_ticks: answer.horizon,
-        },
+        Ok(answer) => {
+            let clocks = answer.clocks;
+            let worked = answer.worked;
+            CSession {
+                verdict: ACCEPTED,
+                booths: answer.booths as u64,
+                clocks,
+                worked,
+                idle: answer.idle,
+                wall_ticks: answer.horizon,
+            }
+        }
         Err(why) => CSession {
             verdict: CVerdict::from(why),
             booths: 0,

@@ -1,15 +1,16 @@
 -- The session by cases: which file or lent record refuses it, or that it is played. Assumes nothing.
-use mathlib.Core.Path.{◌≡◌}
+use mathlib.Core.Path.{◌≡◌, refl, sym, ap, ◌∙◌}
+use mathlib.Core.Logic.{◌≢◌}
 use mathlib.Core.List.{List}
 use mathlib.Core.Option.{Option, none, some}
 use Prim.Native.Nat.{ℕ, ◌*◌, ◌≤◌, ◌<◌}
 use borrow.Author.Tests.{lt-ltb, le-ltb}
 use lib.ListN.{length}
 use Rattle.base.specs.Refusals.{Refusal, refusal, refuse_if, first_fault}
-use Rattle.rules.specs.Verdicts.{TheCall, Verdict, refused_as}
+use Rattle.rules.specs.Verdicts.{Nothing, TheCall, Verdict, accepted, refused_as}
 use Rattle.rules.specs.BoothTable.{Line}
 use Rattle.rules.specs.ArrivalLog.{Log}
-use Rattle.rules.specs.Files.{both_taken, one_refused, read_files}
+use Rattle.rules.specs.Files.{TwoFiles, both_taken, one_refused, read_files}
 use Rattle.rules.specs.Session.{buffer_checks, nothing_done, played, session}
 
 module _ (table_bytes log_bytes wall own : List ℕ) where
@@ -40,3 +41,24 @@ module _ (table_bytes log_bytes wall own : List ℕ) where
     pub plays : log.horizon ≤ length wall → length ls * log.horizon ≤ length own → session table_bytes log_bytes wall own ≡ played ls log wall own
     unfolding session buffers
     plays k h = rw (q, session) (rw (fits k h))
+
+    -- whatever the buffers' checks find
+    by_buffers : (o : Option Refusal) → buffers ≡ o → (v : Verdict) → v ≡ (session table_bytes log_bytes wall own).verdict → v.refused ≢ Nothing → session table_bytes log_bytes wall own ≡ nothing_done v wall own
+    unfolding session buffers accepted played nothing_done
+    by_buffers none f v e bad =
+        let whole : session table_bytes log_bytes wall own ≡ played ls log wall own = rw (q, session) (rw f) in
+        absurd (bad (ap (λ w. w.refused) (e ∙ ap (λ o. o.verdict) whole)))
+    by_buffers (some r) f v e bad =
+        let whole = call_refused r f in
+        whole ∙ ap (λ w. nothing_done w wall own) (sym (e ∙ ap (λ o. o.verdict) whole))
+
+  -- a session with a refusing verdict does nothing
+  pub refused_does_nothing : (v : Verdict) → v ≡ (session table_bytes log_bytes wall own).verdict → v.refused ≢ Nothing → session table_bytes log_bytes wall own ≡ nothing_done v wall own
+  unfolding nothing_done first_fault buffers
+  refused_does_nothing v e bad = go (read_files table_bytes log_bytes) refl
+    where
+      go : (f : TwoFiles) → read_files table_bytes log_bytes ≡ f → session table_bytes log_bytes wall own ≡ nothing_done v wall own
+      go (one_refused w) q =
+          let whole = files_refused w q in
+          whole ∙ ap (λ x. nothing_done x wall own) (sym (e ∙ ap (λ o. o.verdict) whole))
+      go (both_taken ls log) q = by_buffers ls log q (first_fault (buffer_checks (length ls) log.horizon wall own)) refl v e bad
