@@ -3,6 +3,7 @@
 
 ghost use Rattle.std.specs.Prelude.{◌≡◌, map, ◌+◌, ◌≤◌, length, take};
 ghost use Rattle.rules.specs.Desk as page;
+ghost use Rattle.base.specs.Refusals.{said};
 ghost use Rattle.printing.specs.Room.{most_digits, refused_room, booth_room};
 
 use base::Refusal;
@@ -111,10 +112,10 @@ impl<'a> Paper<'a> {
     #[tactic(auto, using(crate::proofs::Digits::labelled_length))]
     pub fn refused_line(&mut self, what: &[u8], refusal: Refusal)
         requires { HasRoom (length what.now + refused_room) self.old }
-        ensures { Printed (page.refused_line what.now refusal) self.old self.new }
+        ensures { Printed (page.refused_line what.now (said refusal)) self.old self.new }
     {
         self.put(b"refused ");
-        self.put_labelled(what, refusal.number as usize);
+        self.put_labelled(what, refusal.reason.number() as usize);
         self.number_line(b" at ", refusal.place);
     }
 

@@ -5,8 +5,7 @@ use Prim.Native.Nat.{ℕ, zero, suc, ◌*◌, ◌-◌, ◌≤◌}
 use native.Mathlib.Omega.{arith}
 use lib.ListN.{length, get_or, take, replicate, length-take, length-replicate}
 use borrow.Author.Tests.{le-ltb}
-use Rattle.rules.specs.Verdicts.{Refused}
-use Rattle.rules.specs.Verdicts.{Nothing, TheTable, TheLog, TheCall}
+use Rattle.rules.specs.Verdicts.{Verdict, accepted}
 use Rattle.base.specs.Bytes.{written}
 use Rattle.rules.specs.BoothTable.{booths_allowed}
 use Rattle.rules.specs.Session.{Outcome, session}
@@ -66,45 +65,28 @@ unfoldable pub desk_outcome : List ℕ → List ℕ → Outcome
 desk_outcome table log = session table log (replicate page.most_ticks 0) (replicate (booths_allowed * page.most_ticks) 0)
 
 module _ (table log : List ℕ) where
-  refused_prints : (w : Refused) (what : List ℕ) → ((o : Outcome) → page.outcome_text w o ≡ page.refused_line what o.verdict.refusal)
-      → (a : SessionAnswer) → a ≡ answered (desk_outcome table log) → a.verdict.refused ≡ w → page.refused_line what a.verdict.refusal ≡ page.session_text table log
-  unfolding answered page.session_text desk_outcome
-  refused_prints w what opens a e h =
+  -- what is refused prints the line of its word, with the refusal that the session answered
+  pub refused_prints : (what : List ℕ) (v : Verdict) → v ≡ (desk_outcome table log).verdict → page.outcome_text v.refused (desk_outcome table log) ≡ page.refused_line what (desk_outcome table log).verdict.refusal
+      → page.refused_line what v.refusal ≡ page.session_text table log
+  unfolding page.session_text desk_outcome
+  refused_prints what v e opens =
       let o = desk_outcome table log in
-      let same : o.verdict ≡ a.verdict = sym (ap (λ x. x.verdict) e) in
-      ap (λ v. page.refused_line what v.refusal) (sym same)
-      ∙ sym (opens o)
-      ∙ ap (λ z. page.outcome_text z o) (sym (ap (λ v. v.refused) same ∙ h))
+      ap (λ w. page.refused_line what w.refusal) e ∙ sym opens ∙ ap (λ w. page.outcome_text w.refused o) e
 
-  pub table_prints : (a : SessionAnswer) → a ≡ answered (desk_outcome table log) → a.verdict.refused ≡ TheTable → page.refused_line page.word_table a.verdict.refusal ≡ page.session_text table log
-  unfolding page.outcome_text
-  table_prints = refused_prints TheTable page.word_table (λ o. refl)
-
-  pub log_prints : (a : SessionAnswer) → a ≡ answered (desk_outcome table log) → a.verdict.refused ≡ TheLog → page.refused_line page.word_log a.verdict.refusal ≡ page.session_text table log
-  unfolding page.outcome_text
-  log_prints = refused_prints TheLog page.word_log (λ o. refl)
-
-  pub call_prints : (a : SessionAnswer) → a ≡ answered (desk_outcome table log) → a.verdict.refused ≡ TheCall → page.refused_line page.word_session a.verdict.refusal ≡ page.session_text table log
-  unfolding page.outcome_text
-  call_prints = refused_prints TheCall page.word_session (λ o. refl)
-
-  pub session_prints : (a : SessionAnswer) (wall own : List ℕ) → a ≡ answered (desk_outcome table log) → a.verdict.refused ≡ Nothing
+  pub session_prints : (a : SessionAnswer) (wall own : List ℕ) → accepted ≡ (desk_outcome table log).verdict → a ≡ answered (desk_outcome table log)
       → wall ≡ (desk_outcome table log).wall → own ≡ (desk_outcome table log).own → answer_text a.horizon a wall own ≡ page.session_text table log
-  unfolding answered page.outcome_text page.session_text desk_outcome
-  session_prints a wall own e h w r =
+  unfolding answered accepted page.outcome_text page.session_text desk_outcome
+  session_prints a wall own v e w r =
       let o = desk_outcome table log in
-      let same : o.verdict ≡ a.verdict = sym (ap (λ x. x.verdict) e) in
       ap (λ x. answer_text x.horizon x wall own) e
       ∙ ap (λ l. answer_text o.ticks (answered o) l own) w
       ∙ ap (λ l. answer_text o.ticks (answered o) o.wall l) r
       ∙ answer_prints o
-      ∙ ap (λ z. page.outcome_text z o) (sym (ap (λ v. v.refused) same ∙ h))
+      ∙ ap (λ z. page.outcome_text z.refused o) v
 
   -- what the text of an accepted session asks
-  pub answer_fits : (a : SessionAnswer) → a ≡ answered (desk_outcome table log) → a.verdict.refused ≡ Nothing → (a.horizon ≤ page.most_ticks) × (a.booths ≤ booths_allowed)
-  unfolding answered desk_outcome
-  answer_fits a e h =
-      let o = desk_outcome table log in
-      let same : o.verdict ≡ a.verdict = sym (ap (λ x. x.verdict) e) in
-      let f = fits table log (replicate page.most_ticks 0) (replicate (booths_allowed * page.most_ticks) 0) (ap (λ v. v.refused) same ∙ h) in
+  pub answer_fits : (a : SessionAnswer) → accepted ≡ (desk_outcome table log).verdict → a ≡ answered (desk_outcome table log) → (a.horizon ≤ page.most_ticks) × (a.booths ≤ booths_allowed)
+  unfolding answered accepted desk_outcome
+  answer_fits a v e =
+      let f = fits table log (replicate page.most_ticks 0) (replicate (booths_allowed * page.most_ticks) 0) (ap (λ w. w.refused) (sym v)) in
       (omega (arith, f.short, ap (λ x. x.horizon) e, length-replicate {A = ℕ} page.most_ticks 0), omega (arith, f.few, ap (λ x. x.booths) e))

@@ -6,7 +6,7 @@ ghost use Rattle.rules.specs.Desk as page;
 ghost use Rattle.printing.specs.Printed.{HasRoom, Printed};
 ghost use Rattle.text.specs.TextAnswered.{answer_text, text_room, booth_line_room, text_length, with_text};
 
-use base::Refusal;
+use base::Reason;
 use printing::Paper;
 use rules::{BOOTHS_ALLOWED, Refused};
 use session::SessionAnswer;
@@ -48,18 +48,11 @@ fn session_text(paper: &mut Paper, table: &[u8], log: &[u8])
 {
     let mut wall = [0u8; MOST_TICKS];
     let mut own = [0u8; BOOTHS_ALLOWED * MOST_TICKS];
-    let answer = session::session(table, log, &mut wall, &mut own);
-    let verdict = answer.verdict;
-    let refusal = verdict.refusal;
-    let refused = verdict.refused;
-    match refused {
-        Refused::TheTable => paper.refused_line(b"table ", refusal),
-        Refused::TheLog => paper.refused_line(b"log ", refusal),
-        Refused::TheCall => paper.refused_line(b"session ", refusal),
-        Refused::Nothing => {
-            let h = answer.horizon as usize;
-            admitted_text(paper, answer, &wall, &own, h);
-        }
+    match session::session(table, log, &mut wall, &mut own) {
+        Ok(answer) => admitted_text(paper, answer, &wall, &own, answer.horizon as usize),
+        Err(Refused::Table(refusal)) => paper.refused_line(b"table ", refusal),
+        Err(Refused::Log(refusal)) => paper.refused_line(b"log ", refusal),
+        Err(Refused::Call(refusal)) => paper.refused_line(b"session ", refusal),
     }
 }
 
@@ -72,21 +65,17 @@ fn table_end(input: &[u8]) -> usize
     if all < 3 {
         return all;
     }
-    let end = 3 + base::number16(input, 1) as usize;
+    let end = 3 + base::number::<2>(input, 1) as usize;
     end.min(all)
 }
 
-#[tactic(auto, unfolding(rules::specs::Desk::desk_text, base::specs::Refusals::refusal))]
+#[tactic(auto, unfolding(rules::specs::Desk::desk_text, base::specs::Refusals::refusal, base::specs::Refusals::said, base::specs::Refusals::number_of))]
 fn input_text(paper: &mut Paper, input: &[u8])
     requires { HasRoom text_room paper.old }
     ensures { Printed (page.desk_text input.now) paper.old paper.new }
 {
     if MOST_INPUT < input.len() {
-        let refusal = Refusal {
-            number: base::TOO_LONG_AN_INPUT,
-            place: MOST_INPUT,
-        };
-        return paper.refused_line(b"input ", refusal);
+        return paper.refused_line(b"input ", Reason::TooLongAnInput.at(MOST_INPUT));
     }
     let (table, log) = input.split_at(table_end(input));
     session_text(paper, table, log);
