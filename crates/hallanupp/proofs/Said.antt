@@ -12,13 +12,12 @@ use Rattle.rules.specs.declared.Refused.TheVariants.{Table, Log, Call}
 use Rattle.rules.specs.Verdicts.{Verdict, Nothing, accepted, refused_as, verdict_said}
 use Rattle.rules.specs.BoothTable.{Line}
 use Rattle.rules.specs.Admission.{read_table}
-use Rattle.rules.specs.Files.{both_taken, one_refused, read_files, files_verdict}
-use Rattle.rules.specs.Session.{Outcome}
+use Rattle.rules.specs.Files.{one_refused, read_files, files_verdict}
 use Rattle.rules.specs.Panel.{no_panel, panel_checks, panel}
 use Rattle.files.specs.declared.Files.{Files}
 use Rattle.files.specs.FilesTaken.{FilesTaken}
 use Rattle.panel.proofs.Cases.{panel_bad_table, panel_refused, panel_shown, row_accepted}
-use Rattle.hallanupp.specs.VerdictInC.{table_verdict, in_c}
+use Rattle.hallanupp.specs.VerdictInC.{table_verdict}
 
 module _ (table_bytes : List ℕ) where
   pub table_refused : (r : HeldRefusal) → read_table table_bytes ≡ refused (said r) → table_verdict table_bytes ≡ verdict_said (Table r)

@@ -1,10 +1,8 @@
 -- `arrivals::check_entries` meets its contract: the reader stands where entries are still to be checked. Assumes nothing.
-use Rattle.std.proofs.Common.{◌≡◌, sym, ◌+◌, map, arith}
+use Rattle.std.proofs.Common.{sym, arith}
 use Rattle.std.proofs.lemmas.Result.{err_from_is_err_and}
 use Rattle.base.specs.Refusals.{fault_in, as_read}
-use Rattle.rules.specs.ArrivalLog.{entry_at}
-use Rattle.rules.specs.Values.{line_held}
-use Rattle.arrivals.proofs.LogReading.{Standing, entry_whole, stands_on, stands_refused, stands_done}
+use Rattle.arrivals.proofs.LogReading.{entry_whole, stands_on, stands_refused, stands_done}
 use Rattle.arrivals.proofs.check_entries.Goals as goal
 
 pub returns-in_err-entry : goal.returns-in_err-entry

@@ -1,5 +1,5 @@
 -- `hallanupp_panel` meets its contract: the row in C, and a tick that does not fit is answered as another of its kind. Assumes nothing.
-use Rattle.std.proofs.Common.{ap, ◌∙◌}
+use Rattle.std.proofs.Common.{◌∙◌}
 use Rattle.base.specs.Refusals.{refusal}
 use Rattle.rules.specs.Verdicts.{accepted, verdict_in}
 use Rattle.rules.specs.Panel.{no_share}

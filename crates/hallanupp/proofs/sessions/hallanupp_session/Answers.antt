@@ -1,10 +1,8 @@
 -- `hallanupp_session` meets its contract: the session's answer, field by field, or zeros beside what is refused. Assumes nothing.
-use Rattle.std.proofs.Common.{sym, ap, ◌∙◌}
 use Rattle.base.specs.Refusals.{refusal}
 use Rattle.rules.specs.Verdicts.{accepted, verdict_in}
 use Rattle.session.proofs.ByCases.{refused_does_nothing}
 use Rattle.hallanupp.specs.VerdictInC.{refused_in_c, what_in_c, in_c}
-use Rattle.hallanupp.specs.SessionInC.{session_in_c}
 use Rattle.hallanupp.proofs.InC.{session_said, session_none}
 use Rattle.hallanupp.proofs.Said.{refuses}
 use Rattle.hallanupp.proofs.sessions.hallanupp_session.Goals as goal
