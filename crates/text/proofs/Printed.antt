@@ -5,7 +5,10 @@ use Prim.Native.Nat.{ℕ, zero, suc, ◌*◌, ◌-◌, ◌≤◌}
 use native.Mathlib.Omega.{arith}
 use lib.ListN.{length, get_or, take, replicate, length-take, length-replicate}
 use borrow.Author.Tests.{le-ltb}
-use Rattle.rules.specs.Verdicts.{Verdict, accepted}
+use Rattle.rules.specs.Verdicts.{Verdict, accepted, verdict_said, refused_as}
+use Rattle.rules.specs.declared.Refused.TheVariants.{Table, Log, Call}
+use Rattle.base.specs.Refusals.{said}
+use Rattle.base.specs.declared.Refusal.{Refusal as HeldRefusal}
 use Rattle.base.specs.Bytes.{written}
 use Rattle.rules.specs.BoothTable.{booths_allowed}
 use Rattle.rules.specs.Session.{Outcome, session}
@@ -66,27 +69,41 @@ desk_outcome table log = session table log (replicate page.most_ticks 0) (replic
 
 module _ (table log : List ℕ) where
   -- what is refused prints the line of its word, with the refusal that the session answered
-  pub refused_prints : (what : List ℕ) (v : Verdict) → v ≡ (desk_outcome table log).verdict → page.outcome_text v.refused (desk_outcome table log) ≡ page.refused_line what (desk_outcome table log).verdict.refusal
+  refused_prints : (what : List ℕ) (v : Verdict) → v ≡ (desk_outcome table log).verdict → page.outcome_text v.refused (desk_outcome table log) ≡ page.refused_line what (desk_outcome table log).verdict.refusal
       → page.refused_line what v.refusal ≡ page.session_text table log
   unfolding page.session_text desk_outcome
   refused_prints what v e opens =
       let o = desk_outcome table log in
       ap (λ w. page.refused_line what w.refusal) e ∙ sym opens ∙ ap (λ w. page.outcome_text w.refused o) e
 
+  pub table_prints : (r : HeldRefusal) → verdict_said (Table r) ≡ (desk_outcome table log).verdict → page.session_text table log ≡ page.refused_line page.word_table (said r)
+  unfolding verdict_said refused_as page.outcome_text
+  table_prints r e = sym (refused_prints page.word_table _ e refl)
+
+  pub log_prints : (r : HeldRefusal) → verdict_said (Log r) ≡ (desk_outcome table log).verdict → page.session_text table log ≡ page.refused_line page.word_log (said r)
+  unfolding verdict_said refused_as page.outcome_text
+  log_prints r e = sym (refused_prints page.word_log _ e refl)
+
+  pub call_prints : (r : HeldRefusal) → verdict_said (Call r) ≡ (desk_outcome table log).verdict → page.session_text table log ≡ page.refused_line page.word_session (said r)
+  unfolding verdict_said refused_as page.outcome_text
+  call_prints r e = sym (refused_prints page.word_session _ e refl)
+
   pub session_prints : (a : SessionAnswer) (wall own : List ℕ) → accepted ≡ (desk_outcome table log).verdict → a ≡ answered (desk_outcome table log)
-      → wall ≡ (desk_outcome table log).wall → own ≡ (desk_outcome table log).own → answer_text a.horizon a wall own ≡ page.session_text table log
+      → wall ≡ (desk_outcome table log).wall → own ≡ (desk_outcome table log).own → page.session_text table log ≡ answer_text a.horizon a wall own
   unfolding answered accepted page.outcome_text page.session_text desk_outcome
   session_prints a wall own v e w r =
       let o = desk_outcome table log in
-      ap (λ x. answer_text x.horizon x wall own) e
-      ∙ ap (λ l. answer_text o.ticks (answered o) l own) w
-      ∙ ap (λ l. answer_text o.ticks (answered o) o.wall l) r
-      ∙ answer_prints o
-      ∙ ap (λ z. page.outcome_text z.refused o) v
+      ap (λ z. page.outcome_text z.refused o) (sym v)
+      ∙ sym (answer_prints o)
+      ∙ ap (λ l. answer_text o.ticks (answered o) o.wall l) (sym r)
+      ∙ ap (λ l. answer_text o.ticks (answered o) l own) (sym w)
+      ∙ ap (λ x. answer_text x.horizon x wall own) (sym e)
 
   -- what the text of an accepted session asks
-  pub answer_fits : (a : SessionAnswer) → accepted ≡ (desk_outcome table log).verdict → a ≡ answered (desk_outcome table log) → (a.horizon ≤ page.most_ticks) × (a.booths ≤ booths_allowed)
+  pub answer_fits : (a : SessionAnswer) (wall : List ℕ) → accepted ≡ (desk_outcome table log).verdict → a ≡ answered (desk_outcome table log) → length wall ≡ length {A = ℕ} (replicate page.most_ticks 0)
+      → (a.booths ≤ booths_allowed) × (a.horizon ≤ page.most_ticks) × (a.horizon ≤ length wall)
   unfolding answered accepted desk_outcome
-  answer_fits a v e =
+  answer_fits a wall v e long =
       let f = fits table log (replicate page.most_ticks 0) (replicate (booths_allowed * page.most_ticks) 0) (ap (λ w. w.refused) (sym v)) in
-      (omega (arith, f.short, ap (λ x. x.horizon) e, length-replicate {A = ℕ} page.most_ticks 0), omega (arith, f.few, ap (λ x. x.booths) e))
+      let short : a.horizon ≤ page.most_ticks = omega (arith, f.short, ap (λ x. x.horizon) e, length-replicate {A = ℕ} page.most_ticks 0) in
+      (omega (arith, f.few, ap (λ x. x.booths) e), short, omega (arith, short, long, length-replicate {A = ℕ} page.most_ticks 0))

@@ -42,6 +42,7 @@ fn admitted_text(paper: &mut Paper, answer: SessionAnswer, wall: &[u8], own: &[u
 }
 
 // The session of a table and a log in records of the desk's own, as text.
+#[tactic(auto, using(crate::proofs::Printed::session_prints, crate::proofs::Printed::table_prints, crate::proofs::Printed::log_prints, crate::proofs::Printed::call_prints), unfolding(crate::proofs::Printed::desk_outcome, rules::specs::Verdicts::verdict_in))]
 fn session_text(paper: &mut Paper, table: &[u8], log: &[u8])
     requires { HasRoom text_room paper.old }
     ensures { Printed (page.session_text table.now log.now) paper.old paper.new }
