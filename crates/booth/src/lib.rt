@@ -194,13 +194,13 @@ impl Booth {
     fn takes(self, t: WallTick) -> bool
         ensures { result ≡ takes_next t.0 self }
     {
-        if t.0 < self.tick.0 {
+        if t < self.tick {
             return false;
         }
         if self.first == NO_TASK {
             return true;
         }
-        self.point.0 <= self.clock.0
+        self.point <= self.clock
     }
 
     // The clock moves on to the first waiting entry's point, and the entry is added to its task.
@@ -259,7 +259,7 @@ impl Booth {
         if first == NO_TASK {
             return None;
         }
-        if self.opens.from.0 <= t.0 {
+        if self.opens.from <= t {
             Some(first)
         } else {
             None
@@ -273,7 +273,7 @@ impl Booth {
         if self.first == NO_TASK {
             return false;
         }
-        if t.0 < self.opens.from.0 {
+        if t < self.opens.from {
             return false;
         }
         if self.left < 2 {

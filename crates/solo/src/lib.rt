@@ -96,7 +96,7 @@ impl Player {
         requires { Plays booth.now u.0 self }
         ensures { Admitted booth.now u.0 result }
     {
-        while self.point.is_some_and(|point| point.0 <= u.0) {
+        while self.point.is_some_and(|point| point <= u) {
             self = self.pass(booth);
         }
         self
