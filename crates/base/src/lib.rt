@@ -34,6 +34,7 @@ impl Reason {
     pub fn number(self) -> u32
         ensures { result ≡ number_of self }
     {
+        // The cases are numbered, and a case is cast to its number by `as` alone.
         self as u32
     }
 
@@ -48,7 +49,9 @@ impl Reason {
     }
 }
 
-// The number in the `WIDTH` bytes from `at`, the first of which weighs most.
+// The number in the `WIDTH` bytes from `at`, the first of which weighs most. What two and four bytes are is told to the check,
+// so that it refuses a wrong one for its value.
+#[tactic(auto, using(crate::proofs::BigEndian::two_bytes, crate::proofs::BigEndian::four_bytes))]
 pub fn number<const WIDTH: usize>(bytes: &[u8], at: usize) -> u32
     requires { (WIDTH ≤ 4) × (at + WIDTH ≤ length bytes.now) }
     ensures { (result ≡ number_at WIDTH bytes.now at) × (result < 256 ^ WIDTH) }

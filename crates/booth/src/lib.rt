@@ -1,7 +1,7 @@
 // One booth and its moves at a wall tick: settle, then play. Each move takes the booth and hands it back changed.
 #![tactic(auto)]
 
-ghost use Rattle.std.specs.Prelude.{◌≡◌, List, ℕ, ◌+◌, ◌-◌, ◌≤◌, ◌<◌, length, get_or, drop, replicate, set};
+ghost use Rattle.std.specs.Prelude.{◌≡◌, List, ℕ, ◌+◌, ◌-◌, ◌≤◌, ◌<◌, length, get_or, replicate, set};
 ghost use Rattle.rules.specs.ArrivalLog.{entry_at};
 ghost use Rattle.rules.specs.BoothTable.{Line as PageLine};
 ghost use Rattle.rules.specs.Due as page;
@@ -19,10 +19,11 @@ use rules::{ENTRY_BYTES, Line, NOBODY, Opens, OwnTick, Promise, TASKS_ALLOWED, W
 
 // The tick of an entry that never comes. No Option: `wakes` answers a tick to compare with in any case, and `take_next` would take apart what `takes` has tested.
 const NEVER: u32 = 4294967295;
-// The first task of a booth without demand.
+// The first task of a booth without demand; `as`, since From is not called in a constant.
 const NO_TASK: usize = NOBODY as usize;
 
-// What a booth is promised and how many tasks it has, with what moves. Demand lies at a multiple of 16 bytes, where a copy is quickest.
+// What a booth is promised and how many tasks it has, with what moves. Demand lies at a multiple of 16 bytes, where a copy is quickest,
+// in fixed memory. `Steady` is no invariant of it, since `absent` is not steady; what holds of a booth and a log speaks of both.
 #[derive(Clone, Copy)]
 pub struct Booth {
     // Below 8, in a whole word, so that no padding is copied with the state.
@@ -44,7 +45,8 @@ pub struct Booth {
     pub left: u32,
 }
 
-// A booth that was asked at a wall tick, whether it worked, and the wall tick before which it need not be asked again.
+// A booth that was asked at a wall tick, whether it worked, and the wall tick before which it need not be asked again, which is
+// answered in both cases, so whether it worked is no Option of it.
 #[derive(Clone, Copy)]
 pub struct Asked {
     pub booth: Booth,
@@ -52,7 +54,8 @@ pub struct Asked {
     pub worked: bool,
 }
 
-// Where the booth's next entry lies, from a place on; the log's end where there is none.
+// Where the booth's next entry lies, from a place on; the log's end where there is none, which is a place too, from which a booth
+// looks on, so it is no Option.
 fn next_of(log: &[u8], number: usize, from: usize) -> usize
     requires { Place log.now from }
     ensures { Found log.now number from result }
@@ -178,6 +181,7 @@ impl Booth {
         ensures state { result ≡ clock_at self (self.clock.0 + (to.0 - self.clock.0)) }
         ensures row { row.new ≡ lengthened row.old self.clock.0 (replicate (to.0 - self.clock.0) 255) }
     {
+        // `as` here and in `play_on`, since there is no From from u32 to usize, and a task's number is below 8.
         let from = self.clock.0 as usize;
         let end = to.0 as usize;
         if end <= from {
@@ -225,6 +229,7 @@ impl Booth {
         requires { ToSettle log.now t.0 self row.old }
         ensures { Settled log.now t.0 self row.old result row.new }
     {
+        // No index is counted: it ends where no entry is to be added.
         while self.takes(t) {
             self = self.take_next(log, row);
         }

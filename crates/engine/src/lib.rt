@@ -1,13 +1,13 @@
 // The plain engine: every wall tick in turn, booth after booth, then all booths settle at H.
 #![tactic(auto)]
 
-ghost use Rattle.std.specs.Prelude.{◌≡◌, ◌+◌, ◌≤◌, ◌<◌, length, true, false, MatchOption};
+ghost use Rattle.std.specs.Prelude.{◌≡◌, ◌+◌, ◌≤◌, ◌<◌, true, false, MatchOption};
 ghost use Rattle.engine.specs.Running.{ToOpen, Opened, Ready, Midway, AskedTo, Worked, SleepTo, Ran, Ended, Closed};
 
 use booth::Booth;
 use rules::{BOOTHS_ALLOWED, NOBODY, Table, WallTick};
 
-// The booths after the last wall tick, and what was counted on the way.
+// The booths after the last wall tick, and what was counted on the way: beside them, since the answer has the counts alone.
 #[derive(Clone, Copy)]
 pub struct Stage {
     pub booths: [Booth; BOOTHS_ALLOWED],
@@ -35,7 +35,8 @@ struct Course {
     wakes: [usize; BOOTHS_ALLOWED],
 }
 
-// `n`, `log` and `h` stay parameters: in a struct that lends the log each clause names them through the struct, and is longer.
+// `n`, `log`, `own` and `h` stay parameters, here and in `run` and `close`: in a struct that lends the records each clause names them
+// through the struct, and is longer.
 impl Course {
     // The wall tick before which all booths sleep, `end` at the latest.
     fn sleep_to(&self, n: usize, end: usize) -> usize
@@ -57,6 +58,7 @@ impl Course {
     {
         let a = i * h;
         let part = &mut own[a..a + h];
+        // `as` here and below, since there is no From between u32 and usize; the check proves that nothing is lost.
         let tick = WallTick(t as u32);
         if self.booths[i].goes_on(tick) {
             let played = self.booths[i].play_on(part, self.booths[i].first);

@@ -17,7 +17,7 @@ mod texts;
 // The library's version, 1.0.0: major times 1,000,000, plus minor times 1,000, plus patch.
 const VERSION: u32 = 1000000;
 
-// What is refused: 0 nothing, 1 the booth table, 2 the arrival log, 3 the call itself; then number and place.
+// What is refused: 0 nothing, 1 the booth table, 2 the arrival log, 3 the call itself; then number and place. Numbers, since C reads them.
 #[repr(C)]
 #[derive(Clone, Copy)]
 pub struct CVerdict {
@@ -45,6 +45,7 @@ impl From<Refused> for CVerdict {
         CVerdict {
             refused,
             number: refusal.reason.number(),
+            // `as`, since there is no From from usize to u64.
             place: refusal.place as u64,
         }
     }
@@ -61,6 +62,7 @@ pub extern "C" fn hallanupp_version() -> u32
 pub extern "C" fn hallanupp_table_verdict(table: &[u8]) -> CVerdict
     ensures { result ≡ in_c (table_verdict table.now) }
 {
+    // This and the two functions like it keep their two arms: one over every `Result` would be generic for three lines.
     match table::read_table(table) {
         Ok(_) => ACCEPTED,
         Err(refusal) => CVerdict::from(Refused::Table(refusal)),

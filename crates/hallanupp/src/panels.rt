@@ -7,12 +7,12 @@ use crate::{ACCEPTED, CVerdict};
 use panel::Reading;
 use rules::{LONGEST_SESSION, WallTick};
 
-// The last tick that a panel is read at.
+// The last tick that a panel is read at; `as` here and below, since From is not called in a constant and is none from usize to u32.
 const LONGEST_TICK: usize = LONGEST_SESSION as usize;
 // A tick that is refused, as all behind it are.
 const PAST_ALL_TICKS: u32 = LONGEST_SESSION + 1;
 
-// The two shares; the reading is 0 none yet, 1 below, 2 at the ceiling, 3 over.
+// The two shares; the reading is 0 none yet, 1 below, 2 at the ceiling, 3 over. A number, since C reads it.
 #[repr(C)]
 #[derive(Clone, Copy)]
 pub struct CPanelRow {
@@ -22,6 +22,7 @@ pub struct CPanelRow {
     pub reading: u32,
 }
 
+// No From: an impl of it for u32 may not stand outside the crate of `Reading`.
 fn reading_number(reading: Reading) -> u32
     ensures { result ≡ reading_in_c reading }
 {
@@ -54,6 +55,7 @@ pub extern "C" fn hallanupp_panel(table: &[u8], wall: &[u8], booth: usize, t: us
             got: row.got,
             reading: reading_number(row.reading),
         },
+        // A refusal: both shares 0 and the reading none yet.
         Err(why) => CPanelRow {
             verdict: CVerdict::from(why),
             promised: 0.0,

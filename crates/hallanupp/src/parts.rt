@@ -48,6 +48,7 @@ pub extern "C" fn hallanupp_row_back(own: &[u8], h: usize, booth: usize, count: 
     let start = booth * h;
     CRow {
         verdict: ACCEPTED,
+        // `as`, since there is no From from usize to u64.
         start: start as u64,
         count: count as u64,
     }

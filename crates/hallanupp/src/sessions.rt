@@ -35,6 +35,7 @@ pub extern "C" fn hallanupp_session(
             let worked = answer.worked;
             CSession {
                 verdict: ACCEPTED,
+                // `as`, since there is no From from usize to u64.
                 booths: answer.booths as u64,
                 clocks,
                 worked,
@@ -42,6 +43,7 @@ pub extern "C" fn hallanupp_session(
                 wall_ticks: answer.horizon,
             }
         }
+        // A refusal: nothing is done, and every count is 0.
         Err(why) => CSession {
             verdict: CVerdict::from(why),
             booths: 0,

@@ -1,7 +1,7 @@
 // The panel: a booth's two shares and their reading.
 #![tactic(auto)]
 
-ghost use Rattle.std.specs.Prelude.{◌≡◌, ◌+◌, ◌≤◌, ◌<◌, length, take, sum, IfOk};
+ghost use Rattle.std.specs.Prelude.{◌≡◌, ◌+◌, ◌≤◌, length, take, sum, IfOk};
 ghost use Rattle.rules.specs.Verdicts.{verdict_in};
 ghost use Rattle.rules.specs.InRange.{Sound};
 ghost use Rattle.rules.specs.Session as session;
@@ -141,7 +141,7 @@ pub fn panel(table: &[u8], wall: &[u8], booth: usize, t: WallTick) -> Result<Pan
     if held.booths <= booth {
         return Err(Refused::Call(Reason::NoSuchBoothOrTask.at(0)));
     }
-    // `as`, since `usize` is no `From<u32>`.
+    // `as`, since `usize` is no `From<u32>`. Two tests, since the rules list two checks; a length is no tick, so both read `t.0`.
     if wall.len() < t.0 as usize {
         return Err(Refused::Call(Reason::DoesNotFit.at(0)));
     }

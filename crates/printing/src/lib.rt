@@ -10,10 +10,11 @@ use base::Refusal;
 use itoa::Buffer;
 use rules::BOOTHS_ALLOWED;
 
-// Booths and tasks are below it.
+// Booths and tasks are below it; `as`, since From is not called in a constant.
 const NO_BOOTH: u8 = BOOTHS_ALLOWED as u8;
 
 #[tactic(auto, unfolding(rules::specs::Desk::letter))]
+// A byte of a record as the page prints it: a rule of its own, and no conversion of the library's.
 fn letter(byte: u8) -> u8
     ensures { result ≡ page.letter byte }
 {

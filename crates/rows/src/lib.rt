@@ -9,7 +9,7 @@ ghost use Rattle.rules.specs.Verdicts.{verdict_in};
 use base::{Reason, Refusal};
 use rules::{BOOTHS_ALLOWED, LONGEST_SESSION, Refused};
 
-// A row has a place for every wall tick.
+// A row has a place for every wall tick; `as`, since From is not called in a constant.
 const LONGEST_ROW: usize = LONGEST_SESSION as usize;
 
 // Booth, H, count, then the end, each tested before it is multiplied, so that no product is too large.
@@ -38,7 +38,8 @@ pub fn row_verdict(own: &[u8], h: usize, booth: usize, count: usize) -> Result<(
     check_row(own, h, booth, count).map_err(Refused::Call)
 }
 
-// The caller's own bytes, `count` of them from `booth` times `h`, or the empty part.
+// The caller's own bytes, `count` of them from `booth` times `h`, or the empty part, which `row_verdict` tells from a row of no ticks:
+// on a refusal the part is promised too, so it is no Result.
 pub fn row_back(own: &[u8], h: usize, booth: usize, count: usize) -> &[u8]
     ensures { result.now ≡ (page.row_back own.now h booth count).part }
 {

@@ -1,5 +1,5 @@
 -- What the table and the log begin with: the version, then N, the bytes that follow.
-use Rattle.std.specs.Prelude.{◌≡◌, ◌⊎◌, not, List, [], ◌∷◌, ℕ, ◌+◌, ◌≤◌, ltb, eqb, length}
+use Rattle.std.specs.Prelude.{not, List, [], ◌∷◌, ℕ, ◌+◌, ltb, eqb, length}
 use Rattle.base.specs.Bytes.{byte_at, number_at}
 use Rattle.base.specs.Refusals.{Check, refuse_if, bytes_missing, wrong_version, bytes_left_over}
 
@@ -20,8 +20,3 @@ head_checks width bs =
     ∷ refuse_if (ltb (length bs) (head_end width + head_n width bs)) bytes_missing (length bs)
     ∷ refuse_if (ltb (head_end width + head_n width bs) (length bs)) bytes_left_over (head_end width + head_n width bs)
     ∷ []
-
--- N has two bytes in a table and four in a log, and they are there
-pub record HasHead (width : ℕ) (bs : List ℕ) : Type 0 where
-  pub two_or_four : (width ≡ 2) ⊎ (width ≡ 4)
-  pub there : head_end width ≤ length bs

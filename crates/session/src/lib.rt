@@ -1,7 +1,7 @@
 // A session: the files, then the buffers, then the plain engine, and what is answered.
 #![tactic(auto)]
 
-ghost use Rattle.std.specs.Prelude.{◌≡◌, ◌+◌, ◌*◌, ◌≤◌, ◌<◌, length, IfOk};
+ghost use Rattle.std.specs.Prelude.{◌≡◌, ◌≤◌, length, IfOk};
 ghost use Rattle.rules.specs.Session as page;
 ghost use Rattle.rules.specs.Values.{lines_held};
 ghost use Rattle.rules.specs.Verdicts.{verdict_in};
@@ -14,7 +14,7 @@ use booth::Booth;
 use rules::{BOOTHS_ALLOWED, Refused, Table};
 
 // What a session that is played answers: its wall ticks, then for each booth its final own clock and its worked ticks, and the idle ticks.
-// Two arrays, as the drivers' C struct has them.
+// Two arrays, as `CSession` has them.
 #[derive(Clone, Copy)]
 pub struct SessionAnswer {
     pub horizon: u32,
@@ -50,6 +50,7 @@ fn play_all(table: Table, log: &[u8], wall: &mut [u8], own: &mut [u8], h: usize)
     let booths = engine::close(played, n, log, own, h);
     let clocks = clocks_of(booths, n);
     let worked = stage.worked;
+    // `as`, since there is no From from usize to u32; H is below 1,000,001.
     let horizon = h as u32;
     SessionAnswer {
         horizon,
@@ -73,6 +74,7 @@ pub fn session(
     ensures own { own.new ≡ (page.session table.now log.now wall.old own.old).own }
 {
     let files = files::read_files(table, log)?;
+    // `as`, since there is no From from u32 to usize. Two tests, since the rules list two checks.
     let h = files.horizon as usize;
     if wall.len() < h {
         return Err(Refused::Call(Reason::DoesNotFit.at(0)));

@@ -279,9 +279,6 @@ pub none_written : (l : Line) (es : List Entry) (lent : List ℕ) → lent ≡ w
 unfolding written solo
 none_written _ _ _ = refl
 
-pub length_part : (l : Line) (es : List Entry) (u : ℕ) (part lent : List ℕ) → u ≤ length lent → part ≡ written 0 (solo l es u) lent → length part ≡ length lent
-length_part l es u part lent h e = ap length e ∙ length_written 0 (solo l es u) lent (omega (arith, length_solo l es u))
-
 -- one byte more
 pub written_more : (l : Line) (es : List Entry) (u : ℕ) (part lent : List ℕ) → u < length lent → part ≡ written 0 (solo l es u) lent
     → set part u (own_tick l es u) ≡ written 0 (solo l es (u + 1)) lent

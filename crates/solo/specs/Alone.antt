@@ -26,16 +26,16 @@ pub record Alone (bs : List ℕ) (line : HeldLine) (booth : ℕ) : Type 0 where
 
 -- ---- and it has one proof at most, as a fact that a struct keeps must
 
-From-prop : (t : ℕ) (es : List Entry) → IsProp (From t es)
-From-prop t [] = Unit-prop
-From-prop t (e ∷ es) = ×_prop le_prop (From-prop t es)
+from_prop : (t : ℕ) (es : List Entry) → IsProp (From t es)
+from_prop t [] = Unit-prop
+from_prop t (e ∷ es) = ×_prop le_prop (from_prop t es)
 
-Sorted-prop : (es : List Entry) → IsProp (Sorted es)
-Sorted-prop [] = Unit-prop
-Sorted-prop (e ∷ es) = ×_prop (From-prop e.tick es) (Sorted-prop es)
+sorted_prop : (es : List Entry) → IsProp (Sorted es)
+sorted_prop [] = Unit-prop
+sorted_prop (e ∷ es) = ×_prop (from_prop e.tick es) (sorted_prop es)
 
-WholeLog-prop : (bs : List ℕ) → IsProp (WholeLog bs)
-WholeLog-prop bs = Prim.hlevel (props, Sorted-prop)
+whole_log_prop : (bs : List ℕ) → IsProp (WholeLog bs)
+whole_log_prop bs = Prim.hlevel (props, sorted_prop)
 
-pub Alone-prop : (bs : List ℕ) (line : HeldLine) (booth : ℕ) → IsProp (Alone bs line booth)
-Alone-prop bs line booth = Prim.hlevel (props, WholeLog-prop)
+pub alone_prop : (bs : List ℕ) (line : HeldLine) (booth : ℕ) → IsProp (Alone bs line booth)
+alone_prop bs line booth = Prim.hlevel (props, whole_log_prop)

@@ -3,14 +3,13 @@
 
 ghost use Rattle.std.specs.Prelude.{◌≡◌, List, ℕ, ◌+◌, ◌*◌, ◌≤◌, ◌<◌, IfOk, length, get_or, set};
 ghost use Rattle.base.specs.Bytes.{written};
-ghost use Rattle.rules.specs.Due.{due};
 ghost use Rattle.base.specs.Refusals.{first_fault, fault_in};
 ghost use Rattle.rules.specs.SoloPart as page;
 ghost use Rattle.rules.specs.Values.{line_held, lines_held};
 ghost use Rattle.rules.specs.Fit.{FitTable};
 ghost use Rattle.rules.specs.Verdicts.{verdict_in};
 ghost use Rattle.arrivals.specs.Places.{Place, waiting_at};
-ghost use Rattle.solo.specs.Alone.{Alone, Alone-prop, own_tick};
+ghost use Rattle.solo.specs.Alone.{Alone, alone_prop, own_tick};
 
 use arrivals::{Entry, FIRST_ENTRY};
 use base::{Reason, Refusal};
@@ -23,7 +22,7 @@ struct SoloBooth<'a> {
     log: &'a [u8],
     number: usize,
     line: Line,
-    ghost alone: { Alone log.now line number } by { Alone-prop log.now line number },
+    ghost alone: { Alone log.now line number } by { alone_prop log.now line number },
 }
 
 impl<'a> SoloBooth<'a> {
@@ -96,6 +95,7 @@ impl Player {
         requires { Plays booth.now u.0 self }
         ensures { Admitted booth.now u.0 result }
     {
+        // No index is counted: it ends at the first entry that is not reached.
         while self.point.is_some_and(|point| point <= u) {
             self = self.pass(booth);
         }

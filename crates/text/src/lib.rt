@@ -1,7 +1,7 @@
 // The desk's text of any input, line after line, into a lent buffer.
 #![tactic(auto)]
 
-ghost use Rattle.std.specs.Prelude.{◌≡◌, ◌+◌, ◌*◌, ◌≤◌, length};
+ghost use Rattle.std.specs.Prelude.{◌≡◌, ◌*◌, ◌≤◌, length};
 ghost use Rattle.rules.specs.Desk as page;
 ghost use Rattle.printing.specs.Printed.{HasRoom, Printed};
 ghost use Rattle.text.specs.TextAnswered.{answer_text, text_room, booth_line_room, text_length, with_text};
@@ -25,6 +25,7 @@ fn booth_lines(paper: &mut Paper, answer: SessionAnswer, own: &[u8], h: usize)
     ensures { Printed (page.booth_lines answer.booths h answer.clocks answer.worked own.now) paper.old paper.new }
 {
     for booth in 0..answer.booths {
+        // `as` here and below, since there is no From from u32 to usize.
         let clock = answer.clocks[booth] as usize;
         let row = rows::row_back(own, h, booth, clock);
         paper.booth_line(booth, clock, answer.worked[booth] as usize, row);

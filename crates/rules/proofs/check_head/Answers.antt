@@ -1,7 +1,5 @@
 -- `rules::check_head` meets its contract: each return is the first check that fails. Assumes nothing.
-use mathlib.Core.Path.{◌≡◌}
-use mathlib.Core.Logic.{◌⊎◌, inl, inr}
-use Prim.Native.Nat.{ℕ, ◌+◌, ◌≤◌}
+use Prim.Native.Nat.{◌+◌}
 use native.Mathlib.Omega.{arith}
 use borrow.Author.Tests.{eq-eqb, ne_eqb, lt-ltb, le-ltb}
 use lib.ListN.{length}
@@ -9,10 +7,6 @@ use Rattle.base.specs.Refusals.{refuse_if, first_fault, said, fault_in, number_o
 use Rattle.base.specs.Bytes.{number_at}
 use Rattle.rules.specs.FileHead.{head_n, head_checks}
 use Rattle.rules.proofs.check_head.Goals as goal
-
-small : (width : ℕ) → (width ≡ 2) ⊎ (width ≡ 4) → width ≤ 4
-small width (inl e) = omega arith
-small width (inr e) = omega arith
 
 pub returns-then-len-eq0 : goal.returns-then-len-eq0
 unfolding head_checks first_fault refuse_if fault_in said number_of
