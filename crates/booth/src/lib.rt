@@ -69,6 +69,8 @@ fn next_of(log: &[u8], number: usize, from: usize) -> usize
     log.len()
 }
 
+// The log, the booth's part of the own record and the tick stay parameters: in a struct that lends them each clause names them
+// through the struct, and is longer.
 impl Booth {
     // Stands in an array of booths where the table has none.
     pub fn absent() -> Self
@@ -134,7 +136,8 @@ impl Booth {
         self
     }
 
-    // Unplayed demand for each task: what the first has left goes back in its place.
+    // Unplayed demand for each task: what the first has left goes back in its place. Here and below the length of an array is asked:
+    // without it the proof did not close, since no fact at hand tells the length of one by value.
     fn owed(self) -> [u32; TASKS_ALLOWED]
         requires { length self.demand ≡ 8 }
         ensures { result ≡ owed self }
@@ -198,13 +201,13 @@ impl Booth {
     fn takes(self, t: WallTick) -> bool
         ensures { result ≡ takes_next t.0 self }
     {
-        if t < self.tick {
+        if t.0 < self.tick.0 {
             return false;
         }
         if self.first == NO_TASK {
             return true;
         }
-        self.point <= self.clock
+        self.point.0 <= self.clock.0
     }
 
     // The clock moves on to the first waiting entry's point, and the entry is added to its task.
@@ -264,7 +267,7 @@ impl Booth {
         if first == NO_TASK {
             return None;
         }
-        if self.opens.from <= t {
+        if self.opens.from.0 <= t.0 {
             Some(first)
         } else {
             None
@@ -278,7 +281,7 @@ impl Booth {
         if self.first == NO_TASK {
             return false;
         }
-        if t < self.opens.from {
+        if t.0 < self.opens.from.0 {
             return false;
         }
         if self.left < 2 {

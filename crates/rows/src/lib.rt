@@ -12,7 +12,7 @@ use rules::{BOOTHS_ALLOWED, LONGEST_SESSION, Refused};
 // A row has a place for every wall tick; `as`, since From is not called in a constant.
 const LONGEST_ROW: usize = LONGEST_SESSION as usize;
 
-// Booth, H, count, then the end, each tested before it is multiplied, so that no product is too large.
+// The four that a caller hands over, in this order here and in C. Booth, H, count, then the end, each tested before it is multiplied, so that no product is too large.
 fn check_row(own: &[u8], h: usize, booth: usize, count: usize) -> Result<(), Refusal>
     ensures { fault_in result ≡ first_fault (page.row_checks own.now h booth count) }
 {

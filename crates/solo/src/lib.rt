@@ -96,7 +96,7 @@ impl Player {
         ensures { Admitted booth.now u.0 result }
     {
         // No index is counted: it ends at the first entry that is not reached.
-        while self.point.is_some_and(|point| point <= u) {
+        while self.point.is_some_and(|point| point.0 <= u.0) {
             self = self.pass(booth);
         }
         self
@@ -134,6 +134,7 @@ fn own_ticks_asked(files: &Files, booth: usize, n: usize, room: usize) -> Result
     let Ok(asked) = u32::try_from(n) else {
         return Err(Reason::DoesNotFit.at(0));
     };
+    // So many own ticks, a count and no moment.
     if all.0 < asked || room < n {
         return Err(Reason::DoesNotFit.at(0));
     }

@@ -90,6 +90,7 @@ pub fn desk_text(input: &[u8], out: &mut [u8]) -> usize
     ensures text { out.new ≡ with_text input.now out.old }
     ensures within { result ≤ length out.new }
 {
+    // A count of bytes, since C calls this, and 0 where there is no room.
     if out.len() < TEXT_ROOM {
         return 0;
     }
