@@ -7,7 +7,7 @@ use lib.ListN.{length, get_or, take, replicate}
 use lib.Seq.{length-take-le, set_out}
 use Rattle.rules.specs.declared.Line.{Line as HeldLine}
 use Rattle.rules.specs.ArrivalLog.{entry_at}
-use Rattle.rules.specs.Moves.{nobody, first_task}
+use Rattle.rules.specs.Moves.{nobody, no_demand}
 use Rattle.rules.specs.declared.Opens.{Opens}
 use Rattle.rules.specs.Opens.{opens_at}
 use Rattle.rules.specs.Session.{fresh_booth}
@@ -17,8 +17,9 @@ use Rattle.rules.specs.InRange.{Sound}
 use Rattle.rules.proofs.Fitting.{fit_sound, fit_short}
 use Rattle.rules.specs.Fit.{FitLine}
 use Rattle.arrivals.specs.Places.{waiting_at, Place, WholeLog}
+use Rattle.std.specs.Prelude.{None}
 use Rattle.booth.specs.declared.Booth.{Booth as HeldBooth}
-use Rattle.booth.specs.BoothHeld.{owed, shown, Fit, looking_at, Looked}
+use Rattle.booth.specs.BoothHeld.{first_with, owed, shown, Fit, looking_at, Looked}
 
 abbrev silent : List ℕ
 silent = 0 ∷ 0 ∷ 0 ∷ 0 ∷ 0 ∷ 0 ∷ 0 ∷ 0 ∷ []
@@ -30,7 +31,7 @@ unopened_at number line opens =
       number = number;
       tasks = line.tasks;
       demand = silent;
-      first = nobody;
+      first = None;
       left = 0;
       at = 9;
       promise = line.promise;
@@ -48,8 +49,8 @@ take_zeros zero m h = refl
 take_zeros (suc n) zero h = absurd (omega arith)
 take_zeros (suc n) (suc m) h = ap (λ xs. 0 ∷ xs) (take_zeros n m (omega arith))
 
-no_first : nobody ≡ first_task 0 silent
-unfolding first_task
+no_first : None ≡ first_with silent
+unfolding first_with no_demand
 no_first = refl
 
 module _ (bs : List ℕ) (number : ℕ) (line : HeldLine) (log : WholeLog bs) (fit : FitLine line)
@@ -78,7 +79,7 @@ module _ (bs : List ℕ) (number : ℕ) (line : HeldLine) (log : WholeLog bs) (f
   unfolding looking_at
   kept_opens = ap (λ h. h.opens) looked.is ∙ ap (λ p. opens_at p 0) (sym (ap (λ h. h.promise) looked.is)) ∙ ap (opens_at r.promise) (sym (ap (λ h. h.clock.0) looked.is))
 
-  kept_first : r.first ≡ nobody
+  kept_first : r.first ≡ None
   unfolding looking_at
   kept_first = ap (λ h. h.first) looked.is
 
@@ -95,7 +96,7 @@ module _ (bs : List ℕ) (number : ℕ) (line : HeldLine) (log : WholeLog bs) (f
         tasks = subst (λ n. n ≤ 8) (sym kept_tasks) fit.tasks;
         eight = ap length kept_demand;
         rest = λ k h. ap (λ ds. get_or ds k 0) kept_owed ∙ zeros 8 k;
-        first = kept_first ∙ no_first ∙ ap (first_task 0) (sym kept_owed);
+        first = kept_first ∙ no_first ∙ ap first_with (sym kept_owed);
         opens = kept_opens;
       };
       waits = looked.waits;

@@ -5,14 +5,14 @@ use mathlib.Core.List.{List, [], ◌∷◌}
 use Prim.Native.Nat.{ℕ, ◌+◌, ◌-◌, ◌≤◌, ◌<◌}
 use native.Mathlib.Decide.{dec_le}
 use native.Mathlib.Omega.{arith}
-use lib.Dec.{leb, eqb}
+use lib.Dec.{leb}
 use lib.ListN.{length, take, drop, replicate, length-replicate}
-use borrow.Author.Tests.{leb-true, eq-eqb, ne_eqb}
+use borrow.Author.Tests.{leb-true}
 use Rattle.rules.specs.declared.Promise.{Promise}
 use Rattle.rules.specs.BoothTable.{Line}
 use Rattle.rules.specs.ArrivalLog.{Entry}
 use Rattle.rules.specs.Due.{due, playable_from, release_point}
-use Rattle.rules.specs.Moves.{Booth, nobody, no_demand, settle}
+use Rattle.rules.specs.Moves.{Booth, no_demand, settle}
 use Rattle.rules.specs.InRange.{Sound}
 use Rattle.laws.proofs.DueLaws.{due_mono, due_at_most, playable_soon}
 use Rattle.laws.proofs.QuickSettle.{rest, rests, takes_first, settle_through, quick_settle}
@@ -20,9 +20,10 @@ use Rattle.laws.specs.Courses.{forward, add_first, after_first, InOrder}
 use Rattle.laws.proofs.PageSettle.{settle_quick}
 use Rattle.arrivals.specs.Places.{waiting_at, WholeLog}
 use Rattle.arrivals.proofs.PlaceLaws.{waiting_end, waiting_sorted}
+use Rattle.std.specs.Prelude.{is_none}
 use Rattle.booth.specs.declared.Booth.{Booth as HeldBooth}
 use Rattle.booth.specs.BoothHeld.{owed, shown, taken_next, takes_next, Steady, Fit, Stays, clock_at, lengthened}
-use Rattle.booth.proofs.Demand.{nobody_first, none_taken, owed_eight}
+use Rattle.booth.proofs.Demand.{with_is_none, none_taken}
 use Rattle.booth.proofs.RowWritten.{written_behind, agree_later}
 use Rattle.booth.proofs.Taking.{entry_of, taken_next_lem, first_waits, shown_moved}
 
@@ -31,10 +32,10 @@ pub near : (p : Promise) (u t : ℕ) → Sound p → p.period ≤ 10000 → t < 
 near p u t s short early cap = omega (arith, playable_soon p s u t cap)
 
 -- the held first task says whether demand is left
-pub held_none : (l : Line) (bs : List ℕ) (h : HeldBooth) (row : List ℕ) → Steady h → eqb h.first nobody ≡ no_demand (shown l bs h row).left
+pub held_none : (l : Line) (bs : List ℕ) (h : HeldBooth) (row : List ℕ) → Steady h → is_none h.first ≡ no_demand (shown l bs h row).left
 unfolding shown
 held_none l bs h row s =
-    ap (λ k. eqb k nobody) s.first ∙ nobody_first (owed h) (omega (arith, owed_eight h, s.eight)) ∙ sym (none_taken h.tasks (owed h) s.rest)
+    ap is_none s.first ∙ with_is_none (owed h) ∙ sym (none_taken h.tasks (owed h) s.rest)
 
 -- a booth in the hand of the code is in order, as the laws on settling ask
 pub shown_in_order : (l : Line) (bs : List ℕ) (h : HeldBooth) (row : List ℕ) (t : ℕ) → l.promise ≡ h.promise → WholeLog bs → Fit bs h → h.clock.0 ≤ due h.promise t
@@ -76,12 +77,12 @@ module _ (bs : List ℕ) (h : HeldBooth) (row : List ℕ) (t : ℕ) (fit : Fit b
       ∙ ap (λ x. leb (entry_of bs h).tick t && x)
       (swap_or (leb (due h.promise (entry_of bs h).tick) h.clock.0) (no_demand (take h.tasks (owed h)))
       ∙ ap (λ x. x || leb (due h.promise (entry_of bs h).tick) h.clock.0) (sym (held_none l bs h row fit.steady))
-      ∙ ap (λ x. eqb h.first nobody || leb x h.clock.0) (sym n.point))
-      ∙ ap (λ x. leb x t && (eqb h.first nobody || leb h.point.0 h.clock.0)) (sym n.tick)
+      ∙ ap (λ x. is_none h.first || leb x h.clock.0) (sym n.point))
+      ∙ ap (λ x. leb x t && (is_none h.first || leb h.point.0 h.clock.0)) (sym n.tick)
 
   pub has_come : takes_next t h ≡ true → h.tick.0 ≤ t
   unfolding takes_next
-  has_come q = leb-true h.tick.0 t (both_true (leb h.tick.0 t) (eqb h.first nobody || leb h.point.0 h.clock.0) q).0
+  has_come q = leb-true h.tick.0 t (both_true (leb h.tick.0 t) (is_none h.first || leb h.point.0 h.clock.0) q).0
 
   -- an entry that is taken stands in the log
   pub takes_inside : t < 1000001 → takes_next t h ≡ true → h.at < length bs
@@ -179,17 +180,17 @@ module _ (bs : List ℕ) (t : ℕ) (h₀ : HeldBooth) (row₀ : List ℕ) (h : H
         ∙ sym (settle_quick t (shown l bs h₀ row₀) (shown_in_order l bs h₀ row₀ t q log fit₀ cap₀))
 
     -- with demand left it has settled
-    pub settled_busy : (h.first ≡ nobody → ⊥) → shown l bs h row ≡ settle t (shown l bs h₀ row₀)
+    pub settled_busy : is_none h.first ≡ false → shown l bs h row ≡ settle t (shown l bs h₀ row₀)
     settled_busy busy =
-        let some : no_demand (shown l bs h row).left ≡ false = sym (held_none l bs h row s.fit.steady) ∙ ne_eqb h.first nobody busy in
+        let some : no_demand (shown l bs h row).left ≡ false = sym (held_none l bs h row s.fit.steady) ∙ busy in
         sym (rests t (shown l bs h row) (λ x. x ≡ shown l bs h row) (λ z. absurd (true≢false (sym z ∙ some))) (λ z. refl)) ∙ rests_now
 
     -- with none, once its clock has moved on to due(t)
-    pub settled_free : h.first ≡ nobody → (v : ℕ) → v ≡ due h.promise t
+    pub settled_free : is_none h.first ≡ true → (v : ℕ) → v ≡ due h.promise t
         → shown l bs (clock_at h (h.clock.0 + (v - h.clock.0))) (lengthened row h.clock.0 (replicate (v - h.clock.0) 255)) ≡ settle t (shown l bs h₀ row₀)
     unfolding shown
     settled_free free v is =
-        let none : no_demand (shown l bs h row).left ≡ true = sym (held_none l bs h row s.fit.steady) ∙ eq-eqb h.first nobody free in
+        let none : no_demand (shown l bs h row).left ≡ true = sym (held_none l bs h row s.fit.steady) ∙ free in
         shown_moved l bs h row v inside
         ∙ ap (λ x. forward x (shown l bs h row)) (is ∙ ap (λ p. due p t) (s.stays.promise ∙ sym q))
         ∙ sym (rests t (shown l bs h row) (λ x. x ≡ forward (due l.promise t) (shown l bs h row)) (λ z. refl) (λ z. absurd (true≢false (sym none ∙ z))))

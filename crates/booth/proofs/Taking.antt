@@ -9,12 +9,12 @@ use lib.Seq.{get_or-set_same, get_or-set_other, set-get_or}
 use Rattle.rules.specs.BoothTable.{Line}
 use Rattle.rules.specs.ArrivalLog.{Entry, entry_at}
 use Rattle.rules.specs.Due.{due, release_point}
-use Rattle.rules.specs.Moves.{Booth, first_task, add_demand}
+use Rattle.rules.specs.Moves.{Booth, add_demand}
 use Rattle.laws.specs.Courses.{forward, add_first, after_first}
 use Rattle.arrivals.specs.Places.{waiting_at}
 use Rattle.arrivals.proofs.PlaceLaws.{whole_entry, waiting_own}
 use Rattle.booth.specs.declared.Booth.{Booth as HeldBooth}
-use Rattle.booth.specs.BoothHeld.{owed, shown, taken_next, Next, Waits, Fit, Looked, looking_at, demanding, clock_at, lengthened}
+use Rattle.booth.specs.BoothHeld.{first_number, first_with, owed, shown, taken_next, Next, Waits, Fit, Looked, looking_at, demanding, clock_at, lengthened}
 use Rattle.booth.proofs.Demand.{add_taken, owed_eight}
 use Rattle.booth.proofs.RowWritten.{written_front}
 
@@ -59,7 +59,7 @@ added bs h =
 -- its demand is that, wherever it looks
 owed_looking : (h : HeldBooth) (ds : List ℕ) (at tick point : ℕ) → owed (looking_at (demanding h ds) at tick point) ≡ ds
 unfolding owed looking_at demanding
-owed_looking h ds at tick point = set-get_or ds (first_task 0 ds) 0
+owed_looking h ds at tick point = set-get_or ds (first_number (first_with ds)) 0
 
 pub owed_moved : (h : HeldBooth) (u : ℕ) → owed (clock_at h u) ≡ owed h
 unfolding owed clock_at
@@ -143,7 +143,7 @@ module _ (bs : List ℕ) (h : HeldBooth) (fit : Fit bs h) (more : h.at < length 
                 tasks = fit.steady.tasks;
                 eight = length-set (owed h) e.task x ∙ owed_eight h ∙ fit.steady.eight;
                 rest = λ k far. other k (λ q. omega (arith, q, own_task)) ∙ fit.steady.rest k far;
-                first = ap (first_task 0) (sym now_owed);
+                first = ap first_with (sym now_owed);
                 opens = refl;
               };
               waits = subst (Waits bs) looked.is looked.waits;

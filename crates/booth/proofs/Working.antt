@@ -1,21 +1,20 @@
 -- A settled booth's answer, what working does to it, and when it need not be asked. Assumes nothing.
 use mathlib.Core.Path.{◌≡◌, refl, sym, ap, ◌∙◌, subst}
-use mathlib.Core.Logic.{⊎_elim}
-use mathlib.Core.Bool.{Bool, true, false, not, ◌&&◌}
+use mathlib.Core.Bool.{Bool, true, false, not, ◌&&◌, true≢false}
 use mathlib.Core.List.{List}
 use Prim.Native.Nat.{ℕ, suc, ◌+◌, ◌-◌, ◌≤◌, ◌<◌}
 use native.Mathlib.Decide.{ℕ_discrete, dec_le}
 use native.Mathlib.Numerals.{add-one}
 use native.Mathlib.Omega.{arith}
-use lib.Dec.{ltb, eqb}
+use lib.Dec.{ltb}
 use lib.ListN.{length, get_or, take, set}
 use lib.Seq.{get_or-set_same, get_or-set_other, take-suc-set}
-use borrow.Author.Tests.{eq-eqb, ne_eqb, lt-ltb, le-ltb}
+use borrow.Author.Tests.{lt-ltb, le-ltb}
 use Rattle.rules.specs.BoothTable.{Line}
 use Rattle.rules.specs.Due.{due, playable_from}
 use Rattle.rules.specs.Opens.{opens_at}
 use Rattle.rules.specs.declared.Opens.{Opens}
-use Rattle.rules.specs.Moves.{nobody, no_demand, first_task, may_work, work, settle}
+use Rattle.rules.specs.Moves.{no_demand, first_task, may_work, work, settle}
 use Rattle.rules.specs.InRange.{Sound}
 use Rattle.rules.specs.ArrivalLog.{entry_at}
 use Rattle.rules.specs.declared.WallTick.{WallTick}
@@ -27,53 +26,78 @@ use Rattle.laws.proofs.Asleep.{asleep_silent, asleep_busy}
 use Rattle.arrivals.specs.Places.{WholeLog}
 use Rattle.arrivals.proofs.PlaceLaws.{waiting_end}
 use Rattle.booth.specs.declared.Booth.{Booth as HeldBooth}
-use Rattle.std.specs.Prelude.{Some, None}
-use Rattle.booth.specs.BoothHeld.{owed, shown, settled_answer, wakes_at, Steady, Next, Fit, Stays, AfterPlay, played_on, demanding}
-use Rattle.rules.proofs.FirstDemand.{First, first_here}
-use Rattle.booth.proofs.Demand.{demand_or_none, first_same, first_taken, lose_taken, owed_eight, owed_first, owed_demanding, owed_played}
+use Rattle.std.specs.Prelude.{Some, None, is_none}
+use Rattle.booth.specs.BoothHeld.{first_number, first_with, OneOfEight, owed, shown, settled_answer, wakes_at, Steady, Next, Fit, Stays, AfterPlay, played_on, demanding}
+use Rattle.rules.proofs.FirstDemand.{First, first_here, found_first}
+use Rattle.booth.proofs.Demand.{with_is_none, with_some, with_first, is_nothing, is_number, first_same, first_taken, lose_taken, owed_eight, owed_first, owed_demanding, owed_played}
 use Rattle.booth.proofs.Taking.{first_waits}
 use Rattle.booth.proofs.Settling.{held_none, shown_in_order}
 
 -- ---- the answer
 
 -- the held first task is the rule's
-pub held_first : (h : HeldBooth) → Steady h → (h.first ≡ nobody → ⊥) → First (owed h) h.first
-held_first h s busy = ⊎_elim (λ w. absurd (busy (s.first ∙ w.1))) (λ w. subst (First (owed h)) (sym s.first) w.1) (demand_or_none (owed h))
+pub held_first : (h : HeldBooth) → Steady h → is_none h.first ≡ false → First (owed h) (first_number h.first)
+held_first h s busy = go (no_demand (owed h)) refl
+  where
+    go : (c : Bool) → no_demand (owed h) ≡ c → First (owed h) (first_number h.first)
+    go true q = absurd (true≢false (sym (ap is_none s.first ∙ with_is_none (owed h) ∙ q) ∙ busy))
+    go false q = subst (λ k. First (owed h) (first_number k)) (sym (s.first ∙ with_some (owed h) q)) (found_first (owed h) q)
+
+pub busy_with : (h : HeldBooth) (k : ℕ) → h.first ≡ Some k → is_none h.first ≡ false
+busy_with h k is = ap is_none is
+
+-- it is one of eight
+pub one_of_eight : (h : HeldBooth) → Steady h → OneOfEight h
+one_of_eight h s = record {
+  eight = s.eight;
+  first = λ k is. omega (arith, (held_first h s (busy_with h k is)).there, ap first_number is, owed_eight h, s.eight);
+}
 
 -- where the clock lies says from which wall tick on its own tick may be played
 pub opens_from : (h : HeldBooth) → Steady h → h.opens.from.0 ≡ playable_from h.promise h.clock.0
 unfolding opens_at
 opens_from h s = ap (λ (o : Opens). o.from.0) s.opens
 
+never_both : (a : Bool) → (a && false) ≡ false
+never_both true = refl
+never_both false = refl
+
 module _ (l : Line) (bs : List ℕ) (h : HeldBooth) (row : List ℕ) (s : Steady h) (q : l.promise ≡ h.promise) where
-  pub task_held : (h.first ≡ nobody → ⊥) → first_task 0 (take h.tasks (owed h)) ≡ h.first
+  pub task_held : is_none h.first ≡ false → first_task 0 (take h.tasks (owed h)) ≡ first_number h.first
   task_held busy =
-      (first_here (take h.tasks (owed h)) h.first (first_taken h.tasks (owed h) s.rest h.first (held_first h s busy))).1
+      (first_here (take h.tasks (owed h)) (first_number h.first) (first_taken h.tasks (owed h) s.rest (first_number h.first) (held_first h s busy))).1
 
   -- whether the booth may work, as the code tests it
-  pub may_held : (t : ℕ) → may_work t (shown l bs h row) ≡ (not (eqb h.first nobody) && ltb h.clock.0 (due h.promise (suc t)))
+  pub may_held : (t : ℕ) → may_work t (shown l bs h row) ≡ (not (is_none h.first) && ltb h.clock.0 (due h.promise (suc t)))
   unfolding may_work shown
   may_held t =
       ap (λ p. not (no_demand (take h.tasks (owed h))) && ltb h.clock.0 (due p (suc t))) q
       ∙ ap (λ c. not c && ltb h.clock.0 (due h.promise (suc t))) (sym (held_none l bs h row s))
 
-  pub answers_none : (t : ℕ) → h.first ≡ nobody → None ≡ settled_answer t (shown l bs h row)
+  answers_none : (t : ℕ) → is_none h.first ≡ true → None ≡ settled_answer t (shown l bs h row)
   unfolding settled_answer
   answers_none t free =
-      let may : may_work t (shown l bs h row) ≡ false = may_held t ∙ rw (eq-eqb h.first nobody free) in
+      let may : may_work t (shown l bs h row) ≡ false = may_held t ∙ rw free in
       rw (may, settled_answer)
 
-  pub answers_late : (t : ℕ) → (h.first ≡ nobody → ⊥) → due h.promise (suc t) ≤ h.clock.0 → None ≡ settled_answer t (shown l bs h row)
+  pub answers_late : (t : ℕ) → due h.promise (suc t) ≤ h.clock.0 → None ≡ settled_answer t (shown l bs h row)
   unfolding settled_answer
-  answers_late t busy late =
-      let may : may_work t (shown l bs h row) ≡ false = may_held t ∙ rw (ne_eqb h.first nobody busy, le-ltb h.clock.0 (due h.promise (suc t)) late) in
+  answers_late t late =
+      let may : may_work t (shown l bs h row) ≡ false = may_held t ∙ rw (le-ltb h.clock.0 (due h.promise (suc t)) late) (never_both (not (is_none h.first))) in
       rw (may, settled_answer)
 
-  pub answers_task : (t : ℕ) → (h.first ≡ nobody → ⊥) → h.clock.0 < due h.promise (suc t) → Some h.first ≡ settled_answer t (shown l bs h row)
+  answers_task : (t : ℕ) → is_none h.first ≡ false → h.clock.0 < due h.promise (suc t) → h.first ≡ settled_answer t (shown l bs h row)
   unfolding settled_answer shown
   answers_task t busy early =
-      let may : may_work t (shown l bs h row) ≡ true = may_held t ∙ rw (ne_eqb h.first nobody busy, lt-ltb h.clock.0 (due h.promise (suc t)) early) in
-      rw (may, settled_answer) (ap Some (sym (task_held busy)))
+      let may : may_work t (shown l bs h row) ≡ true = may_held t ∙ rw (busy, lt-ltb h.clock.0 (due h.promise (suc t)) early) in
+      is_number h.first busy ∙ rw (may, settled_answer) (ap Some (sym (task_held busy)))
+
+  pub answers_first : (t : ℕ) → h.clock.0 < due h.promise (suc t) → h.first ≡ settled_answer t (shown l bs h row)
+  answers_first t early = go (is_none h.first) refl
+    where
+      go : (c : Bool) → is_none h.first ≡ c → h.first ≡ settled_answer t (shown l bs h row)
+      go true q = is_nothing h.first q ∙ answers_none t q
+      go false q = answers_task t q early
 
 -- ---- the work
 
@@ -84,13 +108,13 @@ pub record Played (h r : HeldBooth) : Type 0 where
   pub tick : r.tick ≡ h.tick
   pub point : r.point ≡ h.point
   pub eight : length r.demand ≡ 8
-  pub owes : owed r ≡ set (owed h) h.first (get_or (owed h) h.first 0 - 1)
-  pub first : r.first ≡ first_task 0 (owed r)
+  pub owes : owed r ≡ set (owed h) (first_number h.first) (get_or (owed h) (first_number h.first) 0 - 1)
+  pub first : r.first ≡ first_with (owed r)
   pub clock : r.clock.0 ≡ h.clock.0 + 1
   pub opens : r.opens ≡ opens_at r.promise r.clock.0
 
-module _ (h : HeldBooth) (s : Steady h) (f : First (owed h) h.first) where
-  there : h.first < length h.demand
+module _ (h : HeldBooth) (s : Steady h) (f : First (owed h) (first_number h.first)) (busy : is_none h.first ≡ false) where
+  there : first_number h.first < length h.demand
   there = omega (arith, f.there, owed_eight h)
 
   -- with more of the task left it stays the first
@@ -106,7 +130,9 @@ module _ (h : HeldBooth) (s : Steady h) (f : First (owed h) h.first) where
         point = refl;
         eight = s.eight;
         owes = owes;
-        first = sym (ap (first_task 0) owes ∙ first_same (owed h) h.first h.first (get_or (owed h) h.first 0 - 1) f f.there (omega (arith, left)) (omega arith));
+        first =
+            is_number h.first busy
+            ∙ sym (ap first_with owes ∙ with_first _ (first_number h.first) (first_same (owed h) (first_number h.first) (get_or (owed h) (first_number h.first) 0 - 1) f (omega (arith, left))));
         clock = refl;
         opens = refl;
       }
@@ -124,29 +150,29 @@ module _ (h : HeldBooth) (s : Steady h) (f : First (owed h) h.first) where
         point = refl;
         eight = owed_eight (played_on h) ∙ s.eight;
         owes = now_owed ∙ owes;
-        first = ap (first_task 0) (sym now_owed);
+        first = ap first_with (sym now_owed);
         clock = refl;
         opens = refl;
       }
 
   module _ (r : HeldBooth) (p : Played h r) where
-    pub shown_worked : (l : Line) (bs row : List ℕ) → h.clock.0 < length row → shown l bs r (set row h.clock.0 h.first) ≡ work (shown l bs h row)
+    pub shown_worked : (l : Line) (bs row : List ℕ) → h.clock.0 < length row → shown l bs r (set row h.clock.0 (first_number h.first)) ≡ work (shown l bs h row)
     unfolding shown work
     shown_worked l bs row inside =
         let u = h.clock.0 in
         let tasks = h.tasks in
-        let k = h.first in
+        let k = first_number h.first in
         let left = lose_taken tasks (owed h) s.rest k f in
         let is : first_task 0 (take tasks (owed h)) ≡ k = (first_here (take tasks (owed h)) k (first_taken tasks (owed h) s.rest k f)).1 in
         rw (p.owes, p.stays.tasks, p.stays.number, p.at, p.clock, add-one u, take-suc-set row u k inside, is, left)
 
     -- no task's demand grows
     demand_falls : (j : ℕ) → get_or (owed r) j 0 ≤ get_or (owed h) j 0
-    demand_falls j = rw p.owes (go (ℕ_discrete j h.first))
+    demand_falls j = rw p.owes (go (ℕ_discrete j (first_number h.first)))
       where
-        go : Dec (j ≡ h.first) → get_or (set (owed h) h.first (get_or (owed h) h.first 0 - 1)) j 0 ≤ get_or (owed h) j 0
-        go (yes q) = rw (q, get_or-set_same (owed h) h.first (get_or (owed h) h.first 0 - 1) 0 f.there) (omega arith)
-        go (no ne) = rw (get_or-set_other (owed h) h.first j (get_or (owed h) h.first 0 - 1) 0 ne) (omega arith)
+        go : Dec (j ≡ first_number h.first) → get_or (set (owed h) (first_number h.first) (get_or (owed h) (first_number h.first) 0 - 1)) j 0 ≤ get_or (owed h) j 0
+        go (yes q) = rw (q, get_or-set_same (owed h) (first_number h.first) (get_or (owed h) (first_number h.first) 0 - 1) 0 f.there) (omega arith)
+        go (no ne) = rw (get_or-set_other (owed h) (first_number h.first) j (get_or (owed h) (first_number h.first) 0 - 1) 0 ne) (omega arith)
 
     pub after_play : AfterPlay h r
     after_play =
@@ -191,7 +217,7 @@ module _ (h : HeldBooth) (s : Steady h) (f : First (owed h) h.first) where
 pub asleep_until : (l : Line) (bs : List ℕ) (h : HeldBooth) (row : List ℕ) (t : ℕ) → l.promise ≡ h.promise → WholeLog bs → Fit bs h → h.clock.0 ≤ due h.promise t → t < wakes_at h
     → may_work t (settle t (shown l bs h row)) ≡ false
 unfolding wakes_at shown
-asleep_until l bs h row t p log fit cap early = go (eqb h.first nobody) refl
+asleep_until l bs h row t p log fit cap early = go (is_none h.first) refl
   where
     order : InOrder t (shown l bs h row)
     order = shown_in_order l bs h row t p log fit cap
@@ -205,7 +231,7 @@ asleep_until l bs h row t p log fit cap early = go (eqb h.first nobody) refl
             let more : h.at < length bs = omega arith in
             rw (first_waits bs h fit more) (omega (arith, (fit.waits.next more).tick))
 
-    go : (c : Bool) → eqb h.first nobody ≡ c → may_work t (settle t (shown l bs h row)) ≡ false
+    go : (c : Bool) → is_none h.first ≡ c → may_work t (settle t (shown l bs h row)) ≡ false
     go true q = asleep_silent t (shown l bs h row) order (sym (held_none l bs h row fit.steady) ∙ q) (late (rw (q, wakes_at) at early))
     go false q =
         asleep_busy t (shown l bs h row) order (sym (held_none l bs h row fit.steady) ∙ q)

@@ -1,10 +1,10 @@
 -- What a booth as the code holds it is to the rules: the booth of document 01, with its entries still in the log and its row in the lent record.
-use Rattle.std.specs.Prelude.{◌≡◌, Option, Some, None, Bool, true, false, not, ◌&&◌, ◌||◌, List, [], ◌∷◌, ◌++◌, ℕ, suc, ◌+◌, ◌-◌, ◌*◌, ◌≤◌, ◌<◌, leb, ltb, eqb, length, get_or, take, drop, set, replicate}
+use Rattle.std.specs.Prelude.{◌≡◌, Option, Some, None, is_none, unwrap_or, Bool, true, false, not, ◌&&◌, ◌||◌, List, [], ◌∷◌, ◌++◌, ℕ, suc, ◌+◌, ◌-◌, ◌*◌, ◌≤◌, ◌<◌, leb, ltb, length, get_or, take, drop, set, replicate}
 use Rattle.rules.specs.BoothTable.{Line, longest_period}
 use Rattle.rules.specs.ArrivalLog.{entry_at}
 use Rattle.rules.specs.Due.{due, playable_from}
 use Rattle.rules.specs.Opens.{opens_at}
-use Rattle.rules.specs.Moves.{Booth, nobody, first_task, settle, may_work, work}
+use Rattle.rules.specs.Moves.{Booth, nobody, no_demand, first_task, settle, may_work, work}
 use Rattle.rules.specs.InRange.{Sound}
 use Rattle.arrivals.specs.Places.{waiting_at, Place, WholeLog}
 use Rattle.laws.specs.Courses.{after_first}
@@ -21,7 +21,7 @@ absent_booth =
       number = 0;
       tasks = 0;
       demand = replicate 8 0;
-      first = nobody;
+      first = None;
       left = 0;
       at = 0;
       promise = record { period = 0; allowance = 0 };
@@ -31,9 +31,17 @@ absent_booth =
       point = record { 0 = 0 };
     }
 
+-- the page's number of a first task that may be none
+abbrev pub first_number : Option ℕ → ℕ
+first_number first = unwrap_or first nobody
+
+-- the first task with demand, or none
+unfoldable pub first_with : List ℕ → Option ℕ
+first_with ds = elim (no_demand ds) [ true ↦ None | false ↦ Some (first_task 0 ds) ]
+
 -- unplayed demand for each task: what the first has left stands in its place
 unfoldable pub owed : HeldBooth → List ℕ
-owed h = set h.demand h.first h.left
+owed h = set h.demand (first_number h.first) h.left
 
 -- the booth of document 01 that a held booth of line l, the log and the booth's part of the own record show
 unfoldable pub shown : Line → List ℕ → HeldBooth → List ℕ → Booth
@@ -59,13 +67,22 @@ unfoldable pub taken_next : Booth → Booth
 taken_next b = elim b.waiting [ [] ↦ b | e ∷ es ↦ after_first e es b ]
 
 unfoldable pub takes_next : ℕ → HeldBooth → Bool
-takes_next t h = leb h.tick.0 t && (eqb h.first nobody || leb h.point.0 h.clock.0)
+takes_next t h = leb h.tick.0 t && (is_none h.first || leb h.point.0 h.clock.0)
 
 -- at t the booth has a task with more than one tick left, may play it, and has no entry to add
 unfoldable pub goes_on : ℕ → HeldBooth → Bool
-goes_on t h = not (eqb h.first nobody) && (leb h.opens.from.0 t && (ltb 1 h.left && not (takes_next t h)))
+goes_on t h = not (is_none h.first) && (leb h.opens.from.0 t && (ltb 1 h.left && not (takes_next t h)))
+
+-- the task that it then goes on with
+unfoldable pub goes_with : ℕ → HeldBooth → Option ℕ
+goes_with t h = elim (goes_on t h) [ true ↦ h.first | false ↦ None ]
 
 -- ---- what holds of a held booth
+
+-- demand for eight tasks, of which the first with some is one
+pub record OneOfEight (h : HeldBooth) : Type 0 where
+  pub eight : length h.demand ≡ 8
+  pub first : (k : ℕ) → h.first ≡ Some k → k < 8
 
 -- the booth's entries from one place on are those from another, where the first of them stands
 pub record Found (bs : List ℕ) (number from at : ℕ) : Type 0 where
@@ -92,7 +109,7 @@ pub record Steady (h : HeldBooth) : Type 0 where
   pub tasks : h.tasks ≤ 8
   pub eight : length h.demand ≡ 8
   pub rest : (k : ℕ) → h.tasks ≤ k → get_or (owed h) k 0 ≡ 0
-  pub first : h.first ≡ first_task 0 (owed h)
+  pub first : h.first ≡ first_with (owed h)
   pub opens : h.opens ≡ opens_at h.promise h.clock.0
 
 -- what holds of a booth between two moves: also of its place in the log, its tasks there, and that no sum of demand grows too large
@@ -143,7 +160,7 @@ pub record Settled (bs : List ℕ) (t : ℕ) (h : HeldBooth) (before : List ℕ)
 pub record ToPlay (h : HeldBooth) (k : ℕ) (row : List ℕ) : Type 0 where
   pub steady : Steady h
   pub few : k < 8
-  pub first : k ≡ h.first
+  pub first : h.first ≡ Some k
   pub inside : h.clock.0 < length row
   pub short : length row < 1000001
   pub opens : h.opens.from.0 < 1000001
@@ -161,7 +178,7 @@ pub record AfterPlay (h r : HeldBooth) : Type 0 where
 
 -- the wall tick before which a settled booth cannot work: its next entry's, or the one from which its own clock's tick may be played
 unfoldable pub wakes_at : HeldBooth → ℕ
-wakes_at h = elim (eqb h.first nobody) [ true ↦ h.tick.0 | false ↦ playable_from h.promise h.clock.0 ]
+wakes_at h = elim (is_none h.first) [ true ↦ h.tick.0 | false ↦ playable_from h.promise h.clock.0 ]
 
 -- asked at t: its clock has not gone back, and is not past due(t), or due(t + 1) where it worked; before `wakes` it need not be asked
 pub record AfterAsk (bs : List ℕ) (t : ℕ) (h : HeldBooth) (r : Asked) : Type 0 where
@@ -203,8 +220,8 @@ demanding h ds =
       number = h.number;
       tasks = h.tasks;
       demand = ds;
-      first = first_task 0 ds;
-      left = get_or ds (first_task 0 ds) 0;
+      first = first_with ds;
+      left = get_or ds (first_number (first_with ds)) 0;
       at = h.at;
       promise = h.promise;
       clock = h.clock;

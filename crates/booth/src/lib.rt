@@ -12,15 +12,13 @@ ghost use Rattle.rules.specs.Values.{line_held};
 ghost use Rattle.rules.specs.InRange.{Sound};
 ghost use Rattle.rules.specs.Fit.{FitLine};
 ghost use Rattle.arrivals.specs.Places.{waiting_at, Place, WholeLog};
-ghost use Rattle.booth.specs.BoothHeld.{absent_booth, owed, shown, settled_answer, asked, takes_next, taken_next, goes_on, wakes_at, Found, Looked, Steady, Fit, Stays, KeptFrom, ShownBy, ToSettle, Settled, ToPlay, AfterPlay, AfterAsk, demanding, clock_at, played_on, lengthened};
+ghost use Rattle.booth.specs.BoothHeld.{absent_booth, owed, shown, settled_answer, asked, takes_next, taken_next, goes_with, wakes_at, OneOfEight, Found, Looked, Steady, Fit, Stays, KeptFrom, ShownBy, ToSettle, Settled, ToPlay, AfterPlay, AfterAsk, demanding, clock_at, played_on, lengthened};
 
 use arrivals::{Entry, FIRST_ENTRY};
 use rules::{ENTRY_BYTES, Line, NOBODY, Opens, OwnTick, Promise, TASKS_ALLOWED, WallTick};
 
 // The tick of an entry that never comes. No Option: `wakes` answers a tick to compare with in any case, and `take_next` would take apart what `takes` has tested.
 const NEVER: u32 = 4294967295;
-// The first task of a booth without demand; `as`, since From is not called in a constant.
-const NO_TASK: usize = NOBODY as usize;
 
 // What a booth is promised and how many tasks it has, with what moves. Demand lies at a multiple of 16 bytes, where a copy is quickest,
 // in fixed memory. `Steady` is no invariant of it, since `absent` is not steady; what holds of a booth and a log speaks of both.
@@ -31,8 +29,8 @@ pub struct Booth {
     pub tasks: usize,
     // Unplayed demand for each task, but for the first with some.
     pub demand: [u32; TASKS_ALLOWED],
-    // The first task with demand, or NO_TASK. As an Option it was tried: all busy with mixed periods then misses its bar, 1.54 to 1.62 of the fast program's time beside 1.43 to 1.50.
-    pub first: usize,
+    // The first task with demand, or none.
+    pub first: Option<usize>,
     // Where the first entry that waits lies in the log; its tick and its release point stand below.
     pub at: usize,
     pub promise: Promise,
@@ -88,7 +86,7 @@ impl Booth {
             number: 0,
             tasks: 0,
             demand: [0; TASKS_ALLOWED],
-            first: NO_TASK,
+            first: None,
             left: 0,
             at: 0,
             promise,
@@ -139,15 +137,13 @@ impl Booth {
     // Unplayed demand for each task: what the first has left goes back in its place. Here and below the length of an array is asked:
     // without it the proof did not close, since no fact at hand tells the length of one by value.
     fn owed(self) -> [u32; TASKS_ALLOWED]
-        requires { length self.demand ≡ 8 }
+        requires { OneOfEight self }
         ensures { result ≡ owed self }
     {
         let mut all = self.demand;
-        let first = self.first;
-        if TASKS_ALLOWED <= first {
-            return all;
+        if let Some(first) = self.first {
+            all[first] = self.left;
         }
-        all[first] = self.left;
         all
     }
 
@@ -157,19 +153,17 @@ impl Booth {
         ensures { result ≡ demanding self all }
     {
         self.demand = all;
-        let Some(k) = rules::first_task(&all) else {
-            self.first = NO_TASK;
-            self.left = 0;
-            return self;
+        self.first = rules::first_task(&all);
+        self.left = match self.first {
+            Some(k) => all[k],
+            None => 0,
         };
-        self.first = k;
-        self.left = all[k];
         self
     }
 
     // Task k has d more to play.
     fn add(self, k: usize, d: u32) -> Self
-        requires { (k < 8) × (length self.demand ≡ 8) × (get_or (owed self) k 0 + d < 4294967296) }
+        requires { (k < 8) × OneOfEight self × (get_or (owed self) k 0 + d < 4294967296) }
         ensures { result ≡ demanding self (set (owed self) k (get_or (owed self) k 0 + d)) }
     {
         let mut all = self.owed();
@@ -204,7 +198,7 @@ impl Booth {
         if t.0 < self.tick.0 {
             return false;
         }
-        if self.first == NO_TASK {
+        if self.first.is_none() {
             return true;
         }
         self.point.0 <= self.clock.0
@@ -236,7 +230,7 @@ impl Booth {
         while self.takes(t) {
             self = self.take_next(log, row);
         }
-        if self.first == NO_TASK {
+        if self.first.is_none() {
             let promise = self.promise;
             let to = rules::due(promise, t);
             self = self.pass(row, to);
@@ -252,7 +246,7 @@ impl Booth {
         if self.takes(t) {
             return self.catch_up(log, row, t);
         }
-        if self.first != NO_TASK {
+        if self.first.is_some() {
             return self;
         }
         self.catch_up(log, row, t)
@@ -263,41 +257,34 @@ impl Booth {
         requires { Steady self }
         ensures { (l : PageLine) (bs row : List ℕ) → l.promise ≡ self.promise → result ≡ settled_answer t.0 (shown l bs self row) }
     {
-        let first = self.first;
-        if first == NO_TASK {
-            return None;
-        }
         if self.opens.from.0 <= t.0 {
-            Some(first)
+            self.first
         } else {
             None
         }
     }
 
-    // The booth goes on at t with the task that it played: it has more than one tick of it left, may play at t, and has no entry to add.
-    pub fn goes_on(self, t: WallTick) -> bool
-        ensures { result ≡ goes_on t.0 self }
+    // The task that the booth goes on with at t: it has more than one tick of it left, may play at t, and has no entry to add.
+    pub fn goes_on(self, t: WallTick) -> Option<usize>
+        ensures { result ≡ goes_with t.0 self }
     {
-        if self.first == NO_TASK {
-            return false;
-        }
         if t.0 < self.opens.from.0 {
-            return false;
+            return None;
         }
         if self.left < 2 {
-            return false;
+            return None;
         }
         if self.takes(t) {
-            return false;
+            return None;
         }
-        true
+        self.first
     }
 
     // One tick of the first task is played: its number goes into the row at u, u grows by 1.
     pub fn play_on(mut self, row: &mut [u8], k: usize) -> Self
         requires { ToPlay self k row.old }
         ensures state { result ≡ played_on self }
-        ensures row { row.new ≡ set row.old self.clock.0 self.first }
+        ensures row { row.new ≡ set row.old self.clock.0 k }
     {
         let u = self.clock.0;
         row[u as usize] = k as u8;
@@ -330,7 +317,7 @@ impl Booth {
         requires { Steady self }
         ensures { result.0 ≡ wakes_at self }
     {
-        if self.first == NO_TASK {
+        if self.first.is_none() {
             return self.tick;
         }
         let opens = self.opens;

@@ -25,11 +25,12 @@ use Rattle.laws.proofs.RowSlices.{slice_of}
 use Rattle.rules.proofs.Held.{at_set}
 use Rattle.laws.proofs.Course.{nobody_works, sleeps, passed_over, plays, closes_one}
 use Rattle.arrivals.specs.Places.{waiting_at, WholeLog}
+use Rattle.std.specs.Prelude.{Some}
 use Rattle.booth.specs.declared.Asked.{Asked}
 use Rattle.booth.specs.declared.Booth.{Booth as HeldBooth}
-use Rattle.booth.specs.BoothHeld.{owed, ToSettle, AfterSettle, AfterAsk, goes_on, played_on, shown, asked, wakes_at, Fit}
+use Rattle.booth.specs.BoothHeld.{owed, ToSettle, AfterSettle, AfterAsk, first_number, goes_with, played_on, shown, asked, wakes_at, Fit}
 use Rattle.booth.proofs.Working.{asleep_until}
-use Rattle.booth.proofs.OneTurn.{played_clock, goes_on_asks, goes_on_after, goes_on_shown, goes_on_works}
+use Rattle.booth.proofs.OneTurn.{played_clock, goes_with_first, goes_on_asks, goes_on_after, goes_on_shown, goes_on_works}
 use Rattle.arrivals.specs.Places.{entries_of}
 use Rattle.engine.specs.declared.Course.{Course as HeldCourse}
 use Rattle.engine.specs.Running.{nowhere, Same, Alike, Running, Going, Midway, Ending, Ended, OpenedTo}
@@ -463,18 +464,21 @@ module _ {ls : List Line} {n H : ℕ} {bs wall₀ own₀ : List ℕ} {t i : ℕ}
   abbrev part₀ : List ℕ
   part₀ = take w (drop (i * H) own)
 
-  pub going_on_plays : goes_on t singer ≡ true → (played : HeldBooth) (part : List ℕ) → played ≡ played_on singer → part ≡ set part₀ singer.clock.0 singer.first
+  pub going_on_plays : (k : ℕ) → goes_with t singer ≡ Some k → (played : HeldBooth) (part : List ℕ) → played ≡ played_on singer → part ≡ set part₀ singer.clock.0 k
       → Going ls n H bs wall₀ own₀ (t + 1) 0 (set hs i played) (set wakes i played.opens.from.0) (set worked i (get_or worked i 0 + 1)) idle (set wall t i)
       (take (i * H) own ++ (part ++ drop w (drop (i * H) own)))
-  going_on_plays on played part is written =
+  going_on_plays k goes played part is written =
       let asks = turn_asks g e less w q in
-      let inside = (goes_on_asks bs t singer part₀ asks.1 asks.2 asks.3 asks.4 on).inside in
+      let first = goes_with_first t singer k goes in
+      let on = first.0 in
+      let written_first : part ≡ set part₀ singer.clock.0 (first_number singer.first) = written ∙ ap (set part₀ singer.clock.0) (sym (ap first_number first.1)) in
+      let inside = (goes_on_asks bs t singer part₀ k asks.1 asks.2 asks.3 asks.4 goes).inside in
       going_plays g e less w q (record { booth = played; wakes = played.opens.from; worked = true }) part
       (subst (λ (x : HeldBooth). AfterAsk bs t singer (record { booth = x; wakes = x.opens.from; worked = true })) (sym is) (goes_on_after bs t singer part₀ asks.0 asks.1 asks.4 inside on))
-      (λ l p. ap (λ x. shown l bs x part) is ∙ ap (shown l bs (played_on singer)) written ∙ goes_on_shown bs t singer part₀ asks.0 asks.1 asks.4 inside on l p)
+      (λ l p. ap (λ x. shown l bs x part) is ∙ ap (shown l bs (played_on singer)) written_first ∙ goes_on_shown bs t singer part₀ asks.0 asks.1 asks.4 inside on l p)
       (λ l p. goes_on_works bs t singer part₀ asks.0 asks.1 asks.4 inside on l p)
-      (ap (drop played.clock.0) written ∙ drop-set-lt played.clock.0 part₀ singer.clock.0 singer.first (omega (arith, clock is)))
-      (ap length written ∙ length-set part₀ singer.clock.0 singer.first) refl
+      (ap (drop played.clock.0) written ∙ drop-set-lt played.clock.0 part₀ singer.clock.0 k (omega (arith, clock is)))
+      (ap length written ∙ length-set part₀ singer.clock.0 k) refl
     where
       clock : played ≡ played_on singer → played.clock.0 ≡ singer.clock.0 + 1
       clock p = ap (λ (x : HeldBooth). x.clock.0) p ∙ played_clock singer

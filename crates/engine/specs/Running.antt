@@ -1,5 +1,5 @@
 -- What the engine's inner functions ask and give: the booths that the code keeps are the booths of the rules, and the course is the session's.
-use Rattle.std.specs.Prelude.{◌≡◌, List, [], map, ℕ, ◌+◌, ◌*◌, ◌≤◌, ◌<◌, length, get_or, set, take, replicate}
+use Rattle.std.specs.Prelude.{◌≡◌, None, List, [], map, ℕ, ◌+◌, ◌*◌, ◌≤◌, ◌<◌, length, get_or, set, take, replicate}
 use Rattle.rules.specs.declared.Line.{Line as HeldLine}
 use Rattle.rules.specs.declared.Table.{Table}
 use Rattle.rules.specs.BoothTable.{Line}
@@ -22,7 +22,7 @@ nowhere =
       number = 0;
       tasks = 0;
       demand = [];
-      first = 0;
+      first = None;
       left = 0;
       at = 0;
       promise = record { period = 0; allowance = 0 };

@@ -60,8 +60,8 @@ impl Course {
         let part = &mut own[a..a + h];
         // `as` here and below, since there is no From between u32 and usize; the check proves that nothing is lost.
         let tick = WallTick(t as u32);
-        if self.booths[i].goes_on(tick) {
-            let played = self.booths[i].play_on(part, self.booths[i].first);
+        if let Some(k) = self.booths[i].goes_on(tick) {
+            let played = self.booths[i].play_on(part, k);
             self.booths[i] = played;
             self.wakes[i] = played.opens.from.0 as usize;
             return true;

@@ -19,7 +19,7 @@ bounds-all-k-2 c = omega (arith, c.requires)
 pub demanding-requires : goal.demanding-requires
 demanding-requires c =
     let ds = c.owed-all.result in
-    length-set ds c.args.k (get_or ds c.args.k 0 + c.args.d) ∙ ap length c.owed-all.ensures ∙ owed_eight c.args.self ∙ c.requires.1
+    length-set ds c.args.k (get_or ds c.args.k 0 + c.args.d) ∙ ap length c.owed-all.ensures ∙ owed_eight c.args.self ∙ c.requires.1.eight
 
 pub returns : goal.returns
 returns c =

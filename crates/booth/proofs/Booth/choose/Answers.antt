@@ -1,22 +1,19 @@
 -- `booth::Booth::choose` meets its contract. Assumes nothing.
 use native.Mathlib.Omega.{arith}
 use Rattle.laws.proofs.DueLaws.{laws_of_due, not_yet_due}
-use Rattle.booth.proofs.Working.{opens_from, answers_none, answers_late, answers_task}
+use Rattle.booth.proofs.Working.{opens_from, answers_late, answers_first}
 use Rattle.booth.proofs.Booth.choose.Goals as goal
-
-pub returns-then-first-eq-NO_TASK : goal.returns-then-first-eq-NO_TASK
-returns-then-first-eq-NO_TASK c = λ l bs row q. answers_none l bs c.args.self row c.requires q c.args.t.0 c.if-first-eq-NO_TASK.true
 
 pub returns-then-self-t : goal.returns-then-self-t
 returns-then-self-t c = λ l bs row q.
     let h = c.args.self in
     let t = c.args.t.0 in
     let s = c.requires in
-    answers_task l bs h row s q t c.if-first-eq-NO_TASK.false ((laws_of_due.playable h.promise s.sound h.clock.0 t).1 (omega (arith, opens_from h s, c.if-self-t.true)))
+    answers_first l bs h row s q t ((laws_of_due.playable h.promise s.sound h.clock.0 t).1 (omega (arith, opens_from h s, c.if-self-t.true)))
 
 pub returns-else-self-t : goal.returns-else-self-t
 returns-else-self-t c = λ l bs row q.
     let h = c.args.self in
     let t = c.args.t.0 in
     let s = c.requires in
-    answers_late l bs h row s q t c.if-first-eq-NO_TASK.false (not_yet_due h.promise s.sound h.clock.0 t (omega (arith, opens_from h s, c.if-self-t.false)))
+    answers_late l bs h row s q t (not_yet_due h.promise s.sound h.clock.0 t (omega (arith, opens_from h s, c.if-self-t.false)))

@@ -1,31 +1,33 @@
 -- `Booth::demanding` meets its contract. Assumes nothing.
-use Rattle.std.proofs.Common.{◌≡◌, refl, sym, ap, ◌∙◌, ℕ, arith, get_or, Option, Some, None}
+use Rattle.std.proofs.Common.{sym, ap, ◌∙◌, List, ℕ, arith, get_or, Option, None}
 use lib.ListN.{get_or-eq_default}
-use Rattle.rules.specs.Moves.{nobody, first_task}
-use Rattle.booth.specs.BoothHeld.{demanding}
+use Rattle.booth.specs.declared.Booth.{Booth}
+use Rattle.booth.specs.BoothHeld.{first_number, demanding}
+use Rattle.booth.proofs.Demand.{first_found}
 use Rattle.booth.proofs.Booth.demanding.Goals as goal
-use Rattle.booth.proofs.Booth.demanding.Goals.{In_default}
 
--- no task has demand
-none : (c : In_default) → nobody ≡ first_task 0 c.args.all
-none c = go c.first_task.result refl
-  where
-    go : (o : Option ℕ) → c.first_task.result ≡ o → nobody ≡ first_task 0 c.args.all
-    go None q = let h = rw q at c.first_task.ensures.number in h
-    go (Some k) q = absurd (c.in_default.not-Some k q)
+-- the booth with this demand, first task and rest of it
+abbrev to_play : Booth → List ℕ → Option ℕ → ℕ → Booth
+to_play h all first left =
+    record { number = h.number; tasks = h.tasks; demand = all; first = first; left = left; at = h.at; promise = h.promise; clock = h.clock; opens = h.opens; tick = h.tick; point = h.point }
 
-pub returns-in_default : goal.returns-in_default
+pub returns-in-Some : goal.returns-in-Some
 unfolding demanding
-returns-in_default c =
+returns-in-Some c =
     let h = c.args.self in
     let all = c.args.all in
-    let first = none (goal.at.returns-in_default c).In_default in
-    ap (λ k. record { number = h.number; tasks = h.tasks; demand = all; first = k; left = 0; at = h.at; promise = h.promise; clock = h.clock; opens = h.opens; tick = h.tick; point = h.point }) first
-    ∙ ap (λ n. record { number = h.number; tasks = h.tasks; demand = all; first = first_task 0 all; left = n; at = h.at; promise = h.promise; clock = h.clock; opens = h.opens; tick = h.tick; point = h.point }) (sym (get_or-eq_default all 0 (omega (arith, c.requires, first))))
+    let found = c.first_task-self in
+    let is = first_found all found.result (omega (arith, c.requires)) found.ensures.number found.ensures.within in
+    ap (λ first. to_play h all first (get_or all c.in-Some.k 0)) c.in-Some.is
+    ∙ ap (λ first. to_play h all first (get_or all (first_number first) 0)) (sym c.in-Some.is ∙ is)
 
-pub returns : goal.returns
+pub returns-in-None : goal.returns-in-None
 unfolding demanding
-returns c =
+returns-in-None c =
     let h = c.args.self in
     let all = c.args.all in
-    ap (λ k. record { number = h.number; tasks = h.tasks; demand = all; first = k; left = get_or all k 0; at = h.at; promise = h.promise; clock = h.clock; opens = h.opens; tick = h.tick; point = h.point }) c.in-Some.ensures.number
+    let found = c.first_task-self in
+    let is = first_found all found.result (omega (arith, c.requires)) found.ensures.number found.ensures.within in
+    ap (λ first. to_play h all first 0) c.in-None.is
+    ∙ ap (to_play h all None) (sym (get_or-eq_default all 0 (omega (arith, c.requires))))
+    ∙ ap (λ first. to_play h all first (get_or all (first_number first) 0)) (sym c.in-None.is ∙ is)

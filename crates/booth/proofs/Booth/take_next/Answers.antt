@@ -2,12 +2,14 @@
 use mathlib.Core.Path.{◌≡◌, sym, ap, ◌∙◌, subst}
 use Prim.Native.Nat.{ℕ, ◌+◌, ◌-◌}
 use native.Mathlib.Omega.{arith}
-use lib.ListN.{length, get_or, set}
+use lib.ListN.{get_or, set}
 use Rattle.rules.specs.InRange.{Sound}
 use Rattle.arrivals.proofs.PlaceLaws.{whole_entry}
 use Rattle.booth.specs.declared.Booth.{Booth}
-use Rattle.booth.specs.BoothHeld.{owed, shown, Looked, looking_at, demanding, clock_at}
+use Rattle.booth.specs.BoothHeld.{OneOfEight, owed, shown, Looked, looking_at, demanding, clock_at}
 use Rattle.booth.proofs.Taking.{entry_of, added, own_task, owed_moved, shown_taken, fit_taken}
+use Rattle.booth.proofs.Demand.{eight_moved}
+use Rattle.booth.proofs.Working.{one_of_eight}
 use Rattle.booth.proofs.Booth.take_next.Goals as goal
 
 pub at-entry-requires : goal.at-entry-requires
@@ -33,7 +35,7 @@ add-self-requires c =
     let d = c.at-entry.ensures.small in
     let ds : owed c.pass-self.result ≡ owed h = ap owed moved ∙ owed_moved h (h.clock.0 + (h.point.0 - h.clock.0)) in (
       omega (arith, k, own_task bs h fit more, fit.steady.tasks),
-      ap (λ (x : Booth). length x.demand) moved ∙ fit.steady.eight,
+      subst OneOfEight (sym moved) (eight_moved h (h.clock.0 + (h.point.0 - h.clock.0)) (one_of_eight h fit.steady)),
       omega (arith, d, fit.room c.at-entry.result.task, ap (λ xs. get_or xs c.at-entry.result.task 0) ds),
     )
 

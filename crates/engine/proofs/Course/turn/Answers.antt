@@ -13,13 +13,13 @@ play_on-played-requires c =
     let a = c.args.i * c.args.h in
     let w = a + c.args.h - a in
     let asks = turn_asks c.requires.2.going c.requires.0 c.requires.1 w (omega arith) in
-    goes_on_asks c.args.log.now c.args.t (get_or c.args.self.now.booths c.args.i nowhere) (take w (drop a c.args.own.now)) asks.1 asks.2 asks.3 asks.4 (sym c.goes_on.ensures ∙ c.if-goes_on.true)
+    goes_on_asks c.args.log.now c.args.t (get_or c.args.self.now.booths c.args.i nowhere) (take w (drop a c.args.own.now)) c.in-Some.k asks.1 asks.2 asks.3 asks.4 (sym c.goes_on.ensures ∙ c.in-Some.is)
 
-pub returns-then-goes_on-clause-worked : goal.returns-then-goes_on-clause-worked
-returns-then-goes_on-clause-worked c = λ _ e.
+pub returns-in-Some-clause-worked : goal.returns-in-Some-clause-worked
+returns-in-Some-clause-worked c = λ _ e.
     let a = c.args.i * c.args.h in
     let plays = c.play_on-played in
-    going_on_plays e.going c.requires.0 c.requires.1 (a + c.args.h - a) (omega arith) (sym c.goes_on.ensures ∙ c.if-goes_on.true) plays.result plays.new.row plays.ensures.state plays.ensures.row
+    going_on_plays e.going c.requires.0 c.requires.1 (a + c.args.h - a) (omega arith) c.in-Some.k (sym c.goes_on.ensures ∙ c.in-Some.is) plays.result plays.new.row plays.ensures.state plays.ensures.row
 
 pub returns-clause-worked : goal.returns-clause-worked
 returns-clause-worked c = λ did e.
