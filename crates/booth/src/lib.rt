@@ -195,13 +195,13 @@ impl Booth {
     fn takes(self, t: WallTick) -> bool
         ensures { result ≡ takes_next t.0 self }
     {
-        if t.0 < self.tick.0 {
+        if t < self.tick {
             return false;
         }
         if self.first.is_none() {
             return true;
         }
-        self.point.0 <= self.clock.0
+        self.point <= self.clock
     }
 
     // The clock moves on to the first waiting entry's point, and the entry is added to its task.
@@ -257,7 +257,7 @@ impl Booth {
         requires { Steady self }
         ensures { (l : PageLine) (bs row : List ℕ) → l.promise ≡ self.promise → result ≡ settled_answer t.0 (shown l bs self row) }
     {
-        if self.opens.from.0 <= t.0 {
+        if self.opens.from <= t {
             self.first
         } else {
             None
@@ -268,7 +268,7 @@ impl Booth {
     pub fn goes_on(self, t: WallTick) -> Option<usize>
         ensures { result ≡ goes_with t.0 self }
     {
-        if t.0 < self.opens.from.0 {
+        if t < self.opens.from {
             return None;
         }
         if self.left < 2 {

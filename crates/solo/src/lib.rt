@@ -96,7 +96,7 @@ impl Player {
         ensures { Admitted booth.now u.0 result }
     {
         // No index is counted: it ends at the first entry that is not reached.
-        while self.point.is_some_and(|point| point.0 <= u.0) {
+        while self.point.is_some_and(|point| point <= u) {
             self = self.pass(booth);
         }
         self
