@@ -1,7 +1,6 @@
 pub mod Demand
 pub mod RowWritten
 pub mod Taking
-pub mod Ticks
 pub mod Settling
 pub mod Working
 pub mod OneTurn

@@ -53,7 +53,7 @@ pub struct Asked {
 }
 
 // Where the booth's next entry lies, from a place on; the log's end where there is none, which is a place too, from which a booth
-// looks on, so it is no Option.
+// looks on, so it is no Option. That `from` is a place of the log is asked, here and below: it speaks of log and place together.
 fn next_of(log: &[u8], number: usize, from: usize) -> usize
     requires { Place log.now from }
     ensures { Found log.now number from result }
@@ -67,8 +67,8 @@ fn next_of(log: &[u8], number: usize, from: usize) -> usize
     log.len()
 }
 
-// The log, the booth's part of the own record and the tick stay parameters: in a struct that lends them each clause names them
-// through the struct, and is longer.
+// The log, the booth's part of the own record and the tick stay parameters, and that the log is whole (`WholeLog`) is asked beside
+// them: in a struct that lends them each clause names them through the struct, and is longer.
 impl Booth {
     // Stands in an array of booths where the table has none.
     pub fn absent() -> Self

@@ -8,7 +8,7 @@ use std::io;
 use std::io::{Print, Read};
 use text::{MOST_INPUT, TEXT_ROOM};
 
-// Reads until the buffer is full or the input ends, and answers how many bytes lie at its start.
+// Reads until the buffer is full or the input ends, and answers how many bytes lie at its start, a count as `Read` answers it.
 fn read_full<R: Read>(reader: &mut R, buffer: &mut [u8]) -> io::Result<usize>
     ensures bound { IfOk result (λ n. n ≤ length buffer.new) }
     ensures bytes { IfOk result (λ n. Consumes (R.remaining reader.old) (R.remaining reader.new) (take n buffer.new)) }

@@ -58,7 +58,7 @@ impl Course {
     {
         let a = i * h;
         let part = &mut own[a..a + h];
-        // `as` here and below, since there is no From between u32 and usize; the check proves that nothing is lost.
+        // `as` here and below, since there is no From between u32 and usize nor from usize to u8; the check proves that nothing is lost.
         let tick = WallTick(t as u32);
         if let Some(k) = self.booths[i].goes_on(tick) {
             let played = self.booths[i].play_on(part, k);

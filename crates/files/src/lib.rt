@@ -15,7 +15,7 @@ pub struct Files {
     pub horizon: u32,
 }
 
-// Any bytes as table and log, the two files that a caller hands over.
+// Any bytes as table and log. They stay two parameters, here and above: C hands them over as two, and a struct of two slices is no plainer.
 pub fn read_files(table: &[u8], log: &[u8]) -> Result<Files, Refused>
     ensures taken { IfOk result (λ files. FilesTaken table.now log.now files) }
     ensures refused { IfErr result (λ why. read_files table.now log.now ≡ one_refused (verdict_said why)) }

@@ -13,8 +13,8 @@ use rules::BOOTHS_ALLOWED;
 // Booths and tasks are below it; `as`, since From is not called in a constant.
 const NO_BOOTH: u8 = BOOTHS_ALLOWED as u8;
 
-#[tactic(auto, unfolding(rules::specs::Desk::letter))]
 // A byte of a record as the page prints it: a rule of its own, and no conversion of the library's.
+#[tactic(auto, unfolding(rules::specs::Desk::letter))]
 fn letter(byte: u8) -> u8
     ensures { result ≡ page.letter byte }
 {
@@ -116,6 +116,7 @@ impl<'a> Paper<'a> {
         ensures { Printed (page.refused_line what.now (said refusal)) self.old self.new }
     {
         self.put(b"refused ");
+        // `as`, since there is no From from u32 to usize.
         self.put_labelled(what, refusal.reason.number() as usize);
         self.number_line(b" at ", refusal.place);
     }

@@ -24,7 +24,7 @@ pub struct SessionAnswer {
     pub idle: u32,
 }
 
-// Each booth's final own clock; 0 where the table has no booth.
+// Each booth's final own clock; 0 where the table has no booth. The booths and how many there are, as `engine::close` hands them on: memory is fixed.
 fn clocks_of(booths: [Booth; BOOTHS_ALLOWED], n: usize) -> [u32; BOOTHS_ALLOWED]
     requires { (n ≤ 8) × (length booths ≡ 8) }
     ensures { Clocks n booths result }

@@ -29,6 +29,7 @@ impl<'a> SoloBooth<'a> {
     ghost use Rattle.solo.specs.Played.{Point};
 
     // The release point by its line of the entry at a place: due of its wall tick, which is converted here and nowhere again. None, at the log's end.
+    // That `at` is a place of the log is asked: it speaks of log and place together.
     fn point_of(&self, at: usize) -> Option<OwnTick>
         requires { Place self.now.log.now at }
         ensures { Point self.now at result }

@@ -3,7 +3,7 @@ use Prim.Native.Nat.{◌≤◌, ◌<◌}
 use native.Mathlib.Omega.{arith}
 use Rattle.laws.proofs.DueLaws.{laws_of_due, not_yet_due}
 use Rattle.booth.proofs.Working.{opens_from, answers_late, answers_first}
-use Rattle.booth.proofs.Ticks.{by_then, past}
+use Rattle.rules.proofs.Ticks.{by_then, past}
 use Rattle.booth.proofs.Booth.choose.Goals as goal
 
 pub returns-then-le : goal.returns-then-le

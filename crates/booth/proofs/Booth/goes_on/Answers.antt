@@ -3,7 +3,7 @@ use mathlib.Core.Path.{sym, ◌∙◌}
 use native.Mathlib.Omega.{arith}
 use borrow.Author.Tests.{lt-leb, le-leb, lt-ltb, le-ltb}
 use Rattle.booth.proofs.OneTurn.{goes_not, goes_first}
-use Rattle.booth.proofs.Ticks.{below, not_below}
+use Rattle.rules.proofs.Ticks.{below, not_below}
 use Rattle.booth.proofs.Booth.goes_on.Goals as goal
 
 pub returns-then-lt : goal.returns-then-lt

@@ -2,7 +2,7 @@
 use borrow.Author.Tests.{lt-leb, le-leb}
 use Rattle.booth.specs.BoothHeld.{takes_next}
 use Rattle.booth.proofs.Demand.{none_told}
-use Rattle.booth.proofs.Ticks.{le_told, below, not_below}
+use Rattle.rules.proofs.Ticks.{le_told, below, not_below}
 use Rattle.booth.proofs.Booth.takes.Goals as goal
 
 pub returns-then-lt : goal.returns-then-lt
