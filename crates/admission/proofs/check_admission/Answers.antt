@@ -10,16 +10,16 @@ pub returns-then-not-passes : goal.returns-then-not-passes
 unfolding lines_held not_admitted_at fault_in said number_of
 returns-then-not-passes c =
     let i = c.loop-i.i in
-    let lines = take c.args.table.booths c.args.table.lines in
+    let lines = take c.args.table.now.booths c.args.table.now.lines in
     simp (c.at.ensures, c.loop-i.invariant ∙ failing_here lines i (omega arith) (sym c.passes.ensures ∙ c.if-not-passes.true))
 
 pub loop-i-preserved : goal.loop-i-preserved
 loop-i-preserved c =
-    let lines = take c.args.table.booths c.args.table.lines in
+    let lines = take c.args.table.now.booths c.args.table.now.lines in
     c.loop-i.invariant ∙ failing_more lines c.loop-i.i (omega arith) (sym c.passes.ensures ∙ c.if-not-passes.false)
 
 pub returns : goal.returns
 unfolding lines_held not_admitted_at fault_in
 returns c =
-    let lines = take c.args.table.booths c.args.table.lines in
+    let lines = take c.args.table.now.booths c.args.table.now.lines in
     simp (c.loop-i.invariant ∙ failing_none lines c.loop-i.i (omega arith))
