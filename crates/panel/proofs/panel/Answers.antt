@@ -4,7 +4,7 @@ use Rattle.std.proofs.lemmas.Result.{err_from_is_err_and}
 use Rattle.base.specs.declared.Refusal.{Refusal as HeldRefusal}
 use Rattle.base.specs.Refusals.{said, number_of}
 use Rattle.base.proofs.Checks.{ok_once, ok_not_err}
-use Rattle.rules.specs.declared.Refused.TheVariants.{Table}
+use Rattle.rules.specs.declared.Refused.TheVariants.{Table, Call}
 use Rattle.rules.specs.declared.Table.{Table as HeldTable}
 use Rattle.rules.specs.Fit.{FitTable}
 use Rattle.rules.specs.Panel as page
@@ -12,8 +12,9 @@ use Rattle.rules.specs.Session.{count}
 use Rattle.rules.specs.Values.{no_held_line}
 use Rattle.rules.specs.Verdicts.{verdict_said, verdict_in}
 use Rattle.rules.proofs.Fitting.{fit_sound}
+use Rattle.rules.proofs.OneAnswer.{answered_so}
 use Rattle.table.proofs.TableTaken.{TableTaken, answer_taken, answer_refused, taken_booths, taken_promise}
-use Rattle.panel.specs.Shown.{shown_row}
+use Rattle.panel.specs.Shown.{shown_row, shown_answer}
 use Rattle.panel.proofs.Cases.{panel_bad_table, panel_absent, panel_past, panel_long, panel_read, row_accepted}
 use Rattle.panel.proofs.panel.Goals as goal
 use Rattle.panel.proofs.panel.Goals.{In_ok-held, In_err-held}
@@ -36,6 +37,12 @@ unfolding verdict_in
 returns-in_err-held-clause-verdict c =
     let p = err_from_is_err_and c.from_residual.result c.from_residual.ensures.1 in
     rw (p.1, p.2) (table_said (goal.at.returns-in_err-held-clause-verdict c).In_err-held)
+
+pub returns-in_err-held-clause-whole : goal.returns-in_err-held-clause-whole
+unfolding verdict_in shown_answer
+returns-in_err-held-clause-whole c =
+    let p = err_from_is_err_and c.from_residual.result c.from_residual.ensures.1 in
+    rw (p.1, p.2) (answered_so (Err _) _ _ (table_said (goal.at.returns-in_err-held-clause-whole c).In_err-held) tt)
 
 -- the table was taken
 module _ (c : In_ok-held) where
@@ -73,6 +80,30 @@ returns-then-t-gt-LONGEST_SESSION-clause-verdict c =
     let k = (goal.at.returns-then-t-gt-LONGEST_SESSION-clause-verdict c).In_ok-held in
     simp (c.at-then-t-gt-LONGEST_SESSION.ensures, panel_long _ _ _ _ (table_taken k).lines (table_taken k).read (there k c.if-held-booth.false) c.if-wall-t.false c.if-t-gt-LONGEST_SESSION.true)
 
+pub returns-then-held-booth-clause-whole : goal.returns-then-held-booth-clause-whole
+unfolding verdict_in verdict_said said number_of page.no_panel shown_answer
+returns-then-held-booth-clause-whole c =
+    let k = (goal.at.returns-then-held-booth-clause-whole c).In_ok-held in
+    let v : verdict_said (Call c.at.result) ≡ (page.panel c.args.table.now c.args.wall.now c.args.booth c.args.t.0).verdict =
+    simp (c.at.ensures, panel_absent _ c.args.wall.now _ c.args.t.0 (table_taken k).lines (table_taken k).read (absent k c.if-held-booth.true)) in
+    answered_so (Err _) _ _ v tt
+
+pub returns-then-wall-t-clause-whole : goal.returns-then-wall-t-clause-whole
+unfolding verdict_in verdict_said said number_of page.no_panel shown_answer
+returns-then-wall-t-clause-whole c =
+    let k = (goal.at.returns-then-wall-t-clause-whole c).In_ok-held in
+    let v : verdict_said (Call c.at-then-wall-t.result) ≡ (page.panel c.args.table.now c.args.wall.now c.args.booth c.args.t.0).verdict =
+    simp (c.at-then-wall-t.ensures, panel_past _ _ _ _ (table_taken k).lines (table_taken k).read (there k c.if-held-booth.false) c.if-wall-t.true) in
+    answered_so (Err _) _ _ v tt
+
+pub returns-then-t-gt-LONGEST_SESSION-clause-whole : goal.returns-then-t-gt-LONGEST_SESSION-clause-whole
+unfolding verdict_in verdict_said said number_of page.no_panel shown_answer
+returns-then-t-gt-LONGEST_SESSION-clause-whole c =
+    let k = (goal.at.returns-then-t-gt-LONGEST_SESSION-clause-whole c).In_ok-held in
+    let v : verdict_said (Call c.at-then-t-gt-LONGEST_SESSION.result) ≡ (page.panel c.args.table.now c.args.wall.now c.args.booth c.args.t.0).verdict =
+    simp (c.at-then-t-gt-LONGEST_SESSION.ensures, panel_long _ _ _ _ (table_taken k).lines (table_taken k).read (there k c.if-held-booth.false) c.if-wall-t.false c.if-t-gt-LONGEST_SESSION.true) in
+    answered_so (Err _) _ _ v tt
+
 pub panel_row-requires : goal.panel_row-requires
 panel_row-requires c =
     let fit : FitTable c.in_ok-held.held = rw (table_was (goal.at.panel_row-requires c).In_ok-held) at c.read_table.ensures.fit in
@@ -94,3 +125,18 @@ returns-clause-row c =
     ∙ ap (λ n. shown_row (page.panel_row promise n a.t.0)) c.worked_ticks.ensures
     ∙ ap (λ p. shown_row (page.panel_row p (count a.booth (take a.t.0 a.wall.now)) a.t.0)) (taken_promise _ _ (table_taken k) a.booth here)
     ∙ sym (ap shown_row (panel_read _ _ _ _ (table_taken k).lines (table_taken k).read here c.if-wall-t.false c.if-t-gt-LONGEST_SESSION.false))
+
+pub returns-clause-whole : goal.returns-clause-whole
+unfolding verdict_in shown_answer
+returns-clause-whole c =
+    let a = c.args in
+    let k = (goal.at.returns-clause-whole c).In_ok-held in
+    let here = there k c.if-held-booth.false in
+    let read = panel_read _ _ _ _ (table_taken k).lines (table_taken k).read here c.if-wall-t.false c.if-t-gt-LONGEST_SESSION.false in
+    let v = sym (ap (λ p. p.verdict) read ∙ row_accepted _ _ _) in
+    let row =
+    c.panel_row.ensures
+    ∙ ap (λ n. shown_row (page.panel_row (get_or c.in_ok-held.held.lines a.booth no_held_line).promise n a.t.0)) c.worked_ticks.ensures
+    ∙ ap (λ p. shown_row (page.panel_row p (count a.booth (take a.t.0 a.wall.now)) a.t.0)) (taken_promise _ _ (table_taken k) a.booth here)
+    ∙ sym (ap shown_row read) in
+    answered_so (Ok _) _ _ v row
