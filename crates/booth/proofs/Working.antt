@@ -132,7 +132,7 @@ module _ (h : HeldBooth) (s : Steady h) (f : First (owed h) (first_number h.firs
         owes = owes;
         first =
             is_number h.first busy
-            ∙ sym (ap first_with owes ∙ with_first _ (first_number h.first) (first_same (owed h) (first_number h.first) (get_or (owed h) (first_number h.first) 0 - 1) f (omega (arith, left))));
+            ∙ sym (ap first_with owes ∙ with_first _ (first_number h.first) (first_same (owed h) (first_number h.first) (first_number h.first) (get_or (owed h) (first_number h.first) 0 - 1) f f.there (omega (arith, left)) (omega arith)));
         clock = refl;
         opens = refl;
       }
