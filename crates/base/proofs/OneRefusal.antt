@@ -25,7 +25,7 @@ number_never_zero TooLongAnInput = omega arith
 reason_of : ℕ → Reason
 reason_of n =
     get_or (
-      BytesMissing ∷ BytesMissing ∷ WrongVersion ∷ BytesLeftOver ∷ TooFewOrMany ∷ WrongLengthByte ∷ OutOfRange ∷ NotAdmitted ∷ WrongTick ∷ NoSuchBoothOrTask ∷ WrongDemand ∷ DoesNotFit ∷ []
+    BytesMissing ∷ BytesMissing ∷ WrongVersion ∷ BytesLeftOver ∷ TooFewOrMany ∷ WrongLengthByte ∷ OutOfRange ∷ NotAdmitted ∷ WrongTick ∷ NoSuchBoothOrTask ∷ WrongDemand ∷ DoesNotFit ∷ []
     ) n TooLongAnInput
 
 back : (r : Reason) → reason_of (number_of r) ≡ r
