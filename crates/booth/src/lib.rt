@@ -20,8 +20,8 @@ use rules::{ENTRY_BYTES, Line, NOBODY, Opens, OwnTick, Promise, TASKS_ALLOWED, W
 // The tick of an entry that never comes. No Option: `wakes` answers a tick to compare with in any case, and `take_next` would take apart what `takes` has tested.
 const NEVER: u32 = 4294967295;
 
-// What a booth is promised and how many tasks it has, with what moves. Demand lies at a multiple of 16 bytes, where a copy is quickest,
-// in fixed memory. `Steady` is no invariant of it, since `absent` is not steady; what holds of a booth and a log speaks of both.
+// What a booth is promised and how many tasks it has, with what moves. Demand lies early, 16 bytes from the booth's first, where a copy
+// is quickest, in fixed memory. `Steady` is no invariant of it, since `absent` is not steady; what holds of a booth and a log speaks of both.
 #[derive(Clone, Copy)]
 pub struct Booth {
     // Below 8, in a whole word, so that no padding is copied with the state.
