@@ -2,6 +2,7 @@
 use Rattle.std.proofs.Common.{rules, ◌≡◌, ◌<◌, ◌≤◌, refl, sym, ap, ◌∙◌, arith, length, take, get_or, Result, Ok, Err}
 use Rattle.std.proofs.lemmas.Result.{err_from_is_err_and}
 use Rattle.base.specs.declared.Refusal.{Refusal as HeldRefusal}
+use Rattle.base.specs.declared.Reason.TheVariants.{NoSuchBoothOrTask, DoesNotFit}
 use Rattle.base.specs.Refusals.{said, number_of}
 use Rattle.base.proofs.Checks.{ok_once, ok_not_err}
 use Rattle.rules.specs.declared.Refused.TheVariants.{Table, Call}
@@ -10,7 +11,7 @@ use Rattle.rules.specs.Fit.{FitTable}
 use Rattle.rules.specs.Panel as page
 use Rattle.rules.specs.Session.{count}
 use Rattle.rules.specs.Values.{no_held_line}
-use Rattle.rules.specs.Verdicts.{verdict_said, verdict_in}
+use Rattle.rules.specs.Verdicts.{Verdict, verdict_said, verdict_in}
 use Rattle.rules.proofs.Fitting.{fit_sound}
 use Rattle.rules.proofs.OneAnswer.{answered_so}
 use Rattle.table.proofs.TableTaken.{TableTaken, answer_taken, answer_refused, taken_booths, taken_promise}
@@ -62,47 +63,51 @@ module _ (c : In_ok-held) where
   there : c.args.booth < c.in_ok-held.held.booths → c.args.booth < length table_taken.lines
   there h = omega (arith, taken_booths _ _ table_taken, h)
 
+-- the three refusals of the call, each with what was answered for it
+module _ (c : In_ok-held) where
+  abbrev asked : Verdict
+  asked = (page.panel c.args.table.now c.args.wall.now c.args.booth c.args.t.0).verdict
+
+  absent_said : (r : HeldRefusal) → r ≡ record { reason = NoSuchBoothOrTask; place = 0 } → c.in_ok-held.held.booths ≤ c.args.booth → verdict_said (Call r) ≡ asked
+  unfolding verdict_said said number_of page.no_panel
+  absent_said r is h = ap (λ x. verdict_said (Call x)) is ∙ sym (ap (λ p. p.verdict) (panel_absent _ c.args.wall.now _ c.args.t.0 (table_taken c).lines (table_taken c).read (absent c h)))
+
+  past_said : (r : HeldRefusal) → r ≡ record { reason = DoesNotFit; place = 0 } → c.args.booth < c.in_ok-held.held.booths → length c.args.wall.now < c.args.t.0 → verdict_said (Call r) ≡ asked
+  unfolding verdict_said said number_of page.no_panel
+  past_said r is h past = ap (λ x. verdict_said (Call x)) is ∙ sym (ap (λ p. p.verdict) (panel_past _ _ _ _ (table_taken c).lines (table_taken c).read (there c h) past))
+
+  long_said : (r : HeldRefusal) → r ≡ record { reason = DoesNotFit; place = 0 } → c.args.booth < c.in_ok-held.held.booths → c.args.t.0 ≤ length c.args.wall.now → 1000000 < c.args.t.0
+      → verdict_said (Call r) ≡ asked
+  unfolding verdict_said said number_of page.no_panel
+  long_said r is h short long = ap (λ x. verdict_said (Call x)) is ∙ sym (ap (λ p. p.verdict) (panel_long _ _ _ _ (table_taken c).lines (table_taken c).read (there c h) short long))
+
 pub returns-then-held-booth-clause-verdict : goal.returns-then-held-booth-clause-verdict
-unfolding verdict_in verdict_said said number_of page.no_panel
-returns-then-held-booth-clause-verdict c =
-    let k = (goal.at.returns-then-held-booth-clause-verdict c).In_ok-held in
-    simp (c.at.ensures, panel_absent _ c.args.wall.now _ c.args.t.0 (table_taken k).lines (table_taken k).read (absent k c.if-held-booth.true))
-
-pub returns-then-wall-t-clause-verdict : goal.returns-then-wall-t-clause-verdict
-unfolding verdict_in verdict_said said number_of page.no_panel
-returns-then-wall-t-clause-verdict c =
-    let k = (goal.at.returns-then-wall-t-clause-verdict c).In_ok-held in
-    simp (c.at-then-wall-t.ensures, panel_past _ _ _ _ (table_taken k).lines (table_taken k).read (there k c.if-held-booth.false) c.if-wall-t.true)
-
-pub returns-then-t-gt-LONGEST_SESSION-clause-verdict : goal.returns-then-t-gt-LONGEST_SESSION-clause-verdict
-unfolding verdict_in verdict_said said number_of page.no_panel
-returns-then-t-gt-LONGEST_SESSION-clause-verdict c =
-    let k = (goal.at.returns-then-t-gt-LONGEST_SESSION-clause-verdict c).In_ok-held in
-    simp (c.at-then-t-gt-LONGEST_SESSION.ensures, panel_long _ _ _ _ (table_taken k).lines (table_taken k).read (there k c.if-held-booth.false) c.if-wall-t.false c.if-t-gt-LONGEST_SESSION.true)
+unfolding verdict_in
+returns-then-held-booth-clause-verdict c = absent_said (goal.at.returns-then-held-booth-clause-verdict c).In_ok-held _ c.at.ensures c.if-held-booth.true
 
 pub returns-then-held-booth-clause-whole : goal.returns-then-held-booth-clause-whole
-unfolding verdict_in verdict_said said number_of page.no_panel shown_answer
-returns-then-held-booth-clause-whole c =
-    let k = (goal.at.returns-then-held-booth-clause-whole c).In_ok-held in
-    let v : verdict_said (Call c.at.result) ≡ (page.panel c.args.table.now c.args.wall.now c.args.booth c.args.t.0).verdict =
-    simp (c.at.ensures, panel_absent _ c.args.wall.now _ c.args.t.0 (table_taken k).lines (table_taken k).read (absent k c.if-held-booth.true)) in
-    answered_so (Err _) _ _ v tt
+unfolding verdict_in shown_answer
+returns-then-held-booth-clause-whole c = answered_so (Err _) _ _ (absent_said (goal.at.returns-then-held-booth-clause-whole c).In_ok-held _ c.at.ensures c.if-held-booth.true) tt
+
+pub returns-then-wall-t-clause-verdict : goal.returns-then-wall-t-clause-verdict
+unfolding verdict_in
+returns-then-wall-t-clause-verdict c = past_said (goal.at.returns-then-wall-t-clause-verdict c).In_ok-held _ c.at-then-wall-t.ensures c.if-held-booth.false c.if-wall-t.true
 
 pub returns-then-wall-t-clause-whole : goal.returns-then-wall-t-clause-whole
-unfolding verdict_in verdict_said said number_of page.no_panel shown_answer
+unfolding verdict_in shown_answer
 returns-then-wall-t-clause-whole c =
-    let k = (goal.at.returns-then-wall-t-clause-whole c).In_ok-held in
-    let v : verdict_said (Call c.at-then-wall-t.result) ≡ (page.panel c.args.table.now c.args.wall.now c.args.booth c.args.t.0).verdict =
-    simp (c.at-then-wall-t.ensures, panel_past _ _ _ _ (table_taken k).lines (table_taken k).read (there k c.if-held-booth.false) c.if-wall-t.true) in
-    answered_so (Err _) _ _ v tt
+    answered_so (Err _) _ _ (past_said (goal.at.returns-then-wall-t-clause-whole c).In_ok-held _ c.at-then-wall-t.ensures c.if-held-booth.false c.if-wall-t.true) tt
+
+pub returns-then-t-gt-LONGEST_SESSION-clause-verdict : goal.returns-then-t-gt-LONGEST_SESSION-clause-verdict
+unfolding verdict_in
+returns-then-t-gt-LONGEST_SESSION-clause-verdict c =
+    long_said (goal.at.returns-then-t-gt-LONGEST_SESSION-clause-verdict c).In_ok-held _ c.at-then-t-gt-LONGEST_SESSION.ensures c.if-held-booth.false c.if-wall-t.false c.if-t-gt-LONGEST_SESSION.true
 
 pub returns-then-t-gt-LONGEST_SESSION-clause-whole : goal.returns-then-t-gt-LONGEST_SESSION-clause-whole
-unfolding verdict_in verdict_said said number_of page.no_panel shown_answer
+unfolding verdict_in shown_answer
 returns-then-t-gt-LONGEST_SESSION-clause-whole c =
-    let k = (goal.at.returns-then-t-gt-LONGEST_SESSION-clause-whole c).In_ok-held in
-    let v : verdict_said (Call c.at-then-t-gt-LONGEST_SESSION.result) ≡ (page.panel c.args.table.now c.args.wall.now c.args.booth c.args.t.0).verdict =
-    simp (c.at-then-t-gt-LONGEST_SESSION.ensures, panel_long _ _ _ _ (table_taken k).lines (table_taken k).read (there k c.if-held-booth.false) c.if-wall-t.false c.if-t-gt-LONGEST_SESSION.true) in
-    answered_so (Err _) _ _ v tt
+    answered_so (Err _) _ _
+    (long_said (goal.at.returns-then-t-gt-LONGEST_SESSION-clause-whole c).In_ok-held _ c.at-then-t-gt-LONGEST_SESSION.ensures c.if-held-booth.false c.if-wall-t.false c.if-t-gt-LONGEST_SESSION.true) tt
 
 pub panel_row-requires : goal.panel_row-requires
 panel_row-requires c =
