@@ -21,7 +21,7 @@ use Rattle.rules.specs.declared.WallTick.{WallTick}
 use Rattle.rules.specs.declared.OwnTick.{OwnTick}
 use Rattle.laws.proofs.QuickSettle.{Late}
 use Rattle.laws.specs.Courses.{InOrder}
-use Rattle.laws.proofs.DueLaws.{not_yet_due}
+use Rattle.laws.proofs.DueLaws.{laws_of_due, not_yet_due}
 use Rattle.laws.proofs.Asleep.{asleep_silent, asleep_busy}
 use Rattle.arrivals.specs.Places.{WholeLog}
 use Rattle.arrivals.proofs.PlaceLaws.{waiting_end}
@@ -98,6 +98,13 @@ module _ (l : Line) (bs : List ℕ) (h : HeldBooth) (row : List ℕ) (s : Steady
       go : (c : Bool) → is_none h.first ≡ c → h.first ≡ settled_answer t (shown l bs h row)
       go true q = is_nothing h.first q ∙ answers_none t q
       go false q = answers_task t q early
+
+-- before the tick where its own clock opens it answers with none, from there on with its first task
+pub none_before : (l : Line) (bs : List ℕ) (h : HeldBooth) (row : List ℕ) (t : ℕ) → Steady h → l.promise ≡ h.promise → t < h.opens.from.0 → None ≡ settled_answer t (shown l bs h row)
+none_before l bs h row t s q ahead = answers_late l bs h row s q t (not_yet_due h.promise s.sound h.clock.0 t (omega (arith, opens_from h s)))
+
+pub chosen_by_then : (l : Line) (bs : List ℕ) (h : HeldBooth) (row : List ℕ) (t : ℕ) → Steady h → l.promise ≡ h.promise → h.opens.from.0 ≤ t → h.first ≡ settled_answer t (shown l bs h row)
+chosen_by_then l bs h row t s q reached = answers_first l bs h row s q t ((laws_of_due.playable h.promise s.sound h.clock.0 t).1 (omega (arith, opens_from h s)))
 
 -- ---- the work
 

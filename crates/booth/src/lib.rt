@@ -253,6 +253,7 @@ impl Booth {
     }
 
     // A settled booth answers with a task to run at t, or with none.
+    #[tactic(auto, using(rules::proofs::Ticks::lt_told, rules::proofs::Ticks::le_told, crate::proofs::Working::chosen_by_then, crate::proofs::Working::none_before))]
     fn choose(self, t: WallTick) -> Option<usize>
         requires { Steady self }
         ensures { (l : PageLine) (bs row : List ℕ) → l.promise ≡ self.promise → result ≡ settled_answer t.0 (shown l bs self row) }
@@ -265,6 +266,7 @@ impl Booth {
     }
 
     // The task that the booth goes on with at t: it has more than one tick of it left, may play at t, and has no entry to add.
+    #[tactic(auto, using(rules::proofs::Ticks::lt_told, rules::proofs::Ticks::le_told), unfolding(crate::specs::BoothHeld::goes_with, crate::specs::BoothHeld::goes_on))]
     pub fn goes_on(self, t: WallTick) -> Option<usize>
         ensures { result ≡ goes_with t.0 self }
     {
