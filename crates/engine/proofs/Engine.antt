@@ -456,6 +456,12 @@ pub going_idle : {ls : List Line} {n H : ℕ} {bs wall₀ own₀ : List ℕ} {t 
     → Going ls n H bs wall₀ own₀ t i hs wakes worked idle wall own → {k : ℕ} → idle ≡ k → Going ls n H bs wall₀ own₀ t i hs wakes worked k wall own
 going_idle {ls} {n} {H} {bs} {wall₀} {own₀} {t} {i} {hs} {wakes} {worked} {idle} {wall} {own} g {k} e = subst (λ m. Going ls n H bs wall₀ own₀ t i hs wakes worked m wall own) e g
 
+-- so many worked ticks, counted another way
+pub going_worked : {ls : List Line} {n H : ℕ} {bs wall₀ own₀ : List ℕ} {t i : ℕ} {hs : List HeldBooth} {wakes worked : List ℕ} {idle : ℕ} {wall own : List ℕ}
+    → Going ls n H bs wall₀ own₀ t i hs wakes worked idle wall own → {counts : List ℕ} → worked ≡ counts → Going ls n H bs wall₀ own₀ t i hs wakes counts idle wall own
+going_worked {ls} {n} {H} {bs} {wall₀} {own₀} {t} {i} {hs} {wakes} {worked} {idle} {wall} {own} g {counts} e =
+    subst (λ m. Going ls n H bs wall₀ own₀ t i hs wakes m idle wall own) e g
+
 -- a booth that goes on plays, and leaves the part with its task written
 module _ {ls : List Line} {n H : ℕ} {bs wall₀ own₀ : List ℕ} {t i : ℕ} {hs : List HeldBooth} {wakes worked : List ℕ} {idle : ℕ} {wall own : List ℕ}
     (g : Going ls n H bs wall₀ own₀ t i hs wakes worked idle wall own) (e : i < n) (less : t < H) (w : ℕ) (q : w ≡ H) where
