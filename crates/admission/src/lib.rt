@@ -62,9 +62,9 @@ fn passes(above: &[Line], line: &Line) -> bool
 
 // Admission, booth 0 first; the first that fails is refused where its record starts. The starts stand beside the table: they are places
 // in the file, and a table holds none.
-pub fn check_admission(table: Table, starts: [usize; BOOTHS_ALLOWED]) -> Result<(), Refusal>
-    requires { FitTable table }
-    ensures { fault_in result ≡ not_admitted_at starts (admission.first_failing 0 [] (lines_held table)) }
+pub fn check_admission(table: &Table, starts: &[usize; BOOTHS_ALLOWED]) -> Result<(), Refusal>
+    requires { FitTable table.now }
+    ensures { fault_in result ≡ not_admitted_at starts.now (admission.first_failing 0 [] (lines_held table.now)) }
 {
     let lines = &table.lines[..table.booths];
     for (i, line) in lines.iter().enumerate() {

@@ -4,7 +4,7 @@ use mathlib.Core.Logic.{◌⊎◌, inl, inr, ⊎_elim}
 use mathlib.Core.Bool.{Bool, true, false, not, true≢false}
 use mathlib.Core.List.{List, [], ◌∷◌}
 use Prim.Native.Nat.{ℕ, zero, suc, ◌+◌, ◌-◌, ◌≤◌, ◌<◌}
-use native.Mathlib.Decide.{dec_le}
+use native.Mathlib.Decide.{ℕ_discrete, dec_le}
 use native.Mathlib.Nat.{not-suc-le-zero, le_of_suc-le-suc}
 use native.Mathlib.Omega.{arith}
 use lib.ListN.{length, get_or, take, set, length-set, length-take}
@@ -63,10 +63,13 @@ is_number (Some k) q = refl
 
 -- ---- one task's demand changes
 
--- the first task with more than one tick is still the first with one less
-pub first_same : (ds : List ℕ) (k x : ℕ) → First ds k → 0 < x → First (set ds k x) k
-first_same ds k x first some =
-    is_first (set ds k x) k (rw (get_or-set_same ds k x 0 first.there) some) (λ j l. get_or-set_other ds k j x 0 (λ e. absurd (omega arith)) ∙ first.before j l)
+-- the first task, or one behind it, has some: the first stays the first
+pub first_same : (ds : List ℕ) (f k x : ℕ) → First ds f → k < length ds → 0 < x → f ≤ k → First (set ds k x) f
+first_same ds f k x first there some h = is_first (set ds k x) f (at_first (ℕ_discrete f k)) (λ j l. get_or-set_other ds k j x 0 (λ e. absurd (omega arith)) ∙ first.before j l)
+  where
+    at_first : Dec (f ≡ k) → 0 < get_or (set ds k x) f 0
+    at_first (yes e) = rw (e, get_or-set_same ds k x 0 there) some
+    at_first (no ne) = rw (get_or-set_other ds k f x 0 ne) first.some
 
 pub add_set : (k d : ℕ) (ds : List ℕ) → k < length ds → add_demand k d ds ≡ set ds k (get_or ds k 0 + d)
 unfolding add_demand

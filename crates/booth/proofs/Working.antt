@@ -21,7 +21,7 @@ use Rattle.rules.specs.declared.WallTick.{WallTick}
 use Rattle.rules.specs.declared.OwnTick.{OwnTick}
 use Rattle.laws.proofs.QuickSettle.{Late}
 use Rattle.laws.specs.Courses.{InOrder}
-use Rattle.laws.proofs.DueLaws.{not_yet_due}
+use Rattle.laws.proofs.DueLaws.{laws_of_due, not_yet_due}
 use Rattle.laws.proofs.Asleep.{asleep_silent, asleep_busy}
 use Rattle.arrivals.specs.Places.{WholeLog}
 use Rattle.arrivals.proofs.PlaceLaws.{waiting_end}
@@ -99,6 +99,13 @@ module _ (l : Line) (bs : List ℕ) (h : HeldBooth) (row : List ℕ) (s : Steady
       go true q = is_nothing h.first q ∙ answers_none t q
       go false q = answers_task t q early
 
+-- before the tick where its own clock opens it answers with none, from there on with its first task
+pub none_before : (l : Line) (bs : List ℕ) (h : HeldBooth) (row : List ℕ) (t : ℕ) → Steady h → l.promise ≡ h.promise → t < h.opens.from.0 → None ≡ settled_answer t (shown l bs h row)
+none_before l bs h row t s q ahead = answers_late l bs h row s q t (not_yet_due h.promise s.sound h.clock.0 t (omega (arith, opens_from h s)))
+
+pub chosen_by_then : (l : Line) (bs : List ℕ) (h : HeldBooth) (row : List ℕ) (t : ℕ) → Steady h → l.promise ≡ h.promise → h.opens.from.0 ≤ t → h.first ≡ settled_answer t (shown l bs h row)
+chosen_by_then l bs h row t s q reached = answers_first l bs h row s q t ((laws_of_due.playable h.promise s.sound h.clock.0 t).1 (omega (arith, opens_from h s)))
+
 -- ---- the work
 
 -- h has played its first task once, and is r
@@ -132,7 +139,7 @@ module _ (h : HeldBooth) (s : Steady h) (f : First (owed h) (first_number h.firs
         owes = owes;
         first =
             is_number h.first busy
-            ∙ sym (ap first_with owes ∙ with_first _ (first_number h.first) (first_same (owed h) (first_number h.first) (get_or (owed h) (first_number h.first) 0 - 1) f (omega (arith, left))));
+            ∙ sym (ap first_with owes ∙ with_first _ (first_number h.first) (first_same (owed h) (first_number h.first) (first_number h.first) (get_or (owed h) (first_number h.first) 0 - 1) f f.there (omega (arith, left)) (omega arith)));
         clock = refl;
         opens = refl;
       }

@@ -20,8 +20,8 @@ use rules::{ENTRY_BYTES, Line, NOBODY, Opens, OwnTick, Promise, TASKS_ALLOWED, W
 // The tick of an entry that never comes. No Option: `wakes` answers a tick to compare with in any case, and `take_next` would take apart what `takes` has tested.
 const NEVER: u32 = 4294967295;
 
-// What a booth is promised and how many tasks it has, with what moves. Demand lies at a multiple of 16 bytes, where a copy is quickest,
-// in fixed memory. `Steady` is no invariant of it, since `absent` is not steady; what holds of a booth and a log speaks of both.
+// What a booth is promised and how many tasks it has, with what moves. Demand lies early, 16 bytes from the booth's first, where a copy
+// is quickest, in fixed memory. `Steady` is no invariant of it, since `absent` is not steady; what holds of a booth and a log speaks of both.
 #[derive(Clone, Copy)]
 pub struct Booth {
     // Below 8, in a whole word, so that no padding is copied with the state.
@@ -253,6 +253,7 @@ impl Booth {
     }
 
     // A settled booth answers with a task to run at t, or with none.
+    #[tactic(auto, using(rules::proofs::Ticks::lt_told, rules::proofs::Ticks::le_told, crate::proofs::Working::chosen_by_then, crate::proofs::Working::none_before))]
     fn choose(self, t: WallTick) -> Option<usize>
         requires { Steady self }
         ensures { (l : PageLine) (bs row : List ℕ) → l.promise ≡ self.promise → result ≡ settled_answer t.0 (shown l bs self row) }
@@ -265,6 +266,7 @@ impl Booth {
     }
 
     // The task that the booth goes on with at t: it has more than one tick of it left, may play at t, and has no entry to add.
+    #[tactic(auto, using(rules::proofs::Ticks::lt_told, rules::proofs::Ticks::le_told), unfolding(crate::specs::BoothHeld::goes_with, crate::specs::BoothHeld::goes_on))]
     pub fn goes_on(self, t: WallTick) -> Option<usize>
         ensures { result ≡ goes_with t.0 self }
     {

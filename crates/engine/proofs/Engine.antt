@@ -6,6 +6,7 @@ use Prim.Native.Nat.{ℕ, zero, suc, ◌+◌, ◌-◌, ◌*◌, ◌≤◌, ◌<�
 use native.Mathlib.Decide.{ℕ_discrete, dec_le}
 use native.Mathlib.Nat.{zero-add, mul-le-mul_right}
 use native.Mathlib.Numerals.{add-one}
+use native.Mathlib.Nat.{add-zero}
 use native.Mathlib.Omega.{arith}
 use lib.ListN.{length-append, length, get_or, take, drop, set, replicate, length-set, length-take, length-drop, length-map, take-append-drop}
 use lib.Seq.{drop-set-lt, get_or-set_same, get_or-set_other, length-take-le, ext_get_or, get_or-take, get_or-append-add}
@@ -455,6 +456,12 @@ pub going_idle : {ls : List Line} {n H : ℕ} {bs wall₀ own₀ : List ℕ} {t 
     → Going ls n H bs wall₀ own₀ t i hs wakes worked idle wall own → {k : ℕ} → idle ≡ k → Going ls n H bs wall₀ own₀ t i hs wakes worked k wall own
 going_idle {ls} {n} {H} {bs} {wall₀} {own₀} {t} {i} {hs} {wakes} {worked} {idle} {wall} {own} g {k} e = subst (λ m. Going ls n H bs wall₀ own₀ t i hs wakes worked m wall own) e g
 
+-- so many worked ticks, counted another way
+pub going_worked : {ls : List Line} {n H : ℕ} {bs wall₀ own₀ : List ℕ} {t i : ℕ} {hs : List HeldBooth} {wakes worked : List ℕ} {idle : ℕ} {wall own : List ℕ}
+    → Going ls n H bs wall₀ own₀ t i hs wakes worked idle wall own → {counts : List ℕ} → worked ≡ counts → Going ls n H bs wall₀ own₀ t i hs wakes counts idle wall own
+going_worked {ls} {n} {H} {bs} {wall₀} {own₀} {t} {i} {hs} {wakes} {worked} {idle} {wall} {own} g {counts} e =
+    subst (λ m. Going ls n H bs wall₀ own₀ t i hs wakes m idle wall own) e g
+
 -- a booth that goes on plays, and leaves the part with its task written
 module _ {ls : List Line} {n H : ℕ} {bs wall₀ own₀ : List ℕ} {t i : ℕ} {hs : List HeldBooth} {wakes worked : List ℕ} {idle : ℕ} {wall own : List ℕ}
     (g : Going ls n H bs wall₀ own₀ t i hs wakes worked idle wall own) (e : i < n) (less : t < H) (w : ℕ) (q : w ≡ H) where
@@ -483,12 +490,21 @@ module _ {ls : List Line} {n H : ℕ} {bs wall₀ own₀ : List ℕ} {t i : ℕ}
       clock : played ≡ played_on singer → played.clock.0 ≡ singer.clock.0 + 1
       clock p = ap (λ (x : HeldBooth). x.clock.0) p ∙ played_clock singer
 
-module _ {ls : List Line} {n H : ℕ} {bs wall₀ own₀ : List ℕ} {t : ℕ} {hs : List HeldBooth} {wakes worked : List ℕ} {idle : ℕ} {wall own : List ℕ}
-    (g : Going ls n H bs wall₀ own₀ t 0 hs wakes worked idle wall own) (asleep : (j : ℕ) → j < n → t < get_or wakes j 0) where
-  pub going_asleep : (k : ℕ) → k ≤ n → Going ls n H bs wall₀ own₀ t k hs wakes worked idle wall own
-  going_asleep zero l = g
-  going_asleep (suc k) l =
-      subst (λ m. Going ls n H bs wall₀ own₀ t m hs wakes worked idle wall own) (add-one k) (going_sleeps (going_asleep k (omega arith)) (omega arith) (asleep k (omega arith)))
+-- booths that sleep are passed over, from any booth on
+module _ {ls : List Line} {n H : ℕ} {bs wall₀ own₀ : List ℕ} {t : ℕ} {hs : List HeldBooth} {wakes worked : List ℕ} {idle : ℕ} {wall own : List ℕ} where
+  pub going_on : (d i : ℕ) → Going ls n H bs wall₀ own₀ t i hs wakes worked idle wall own → i + d ≤ n → ((j : ℕ) → i ≤ j → j < i + d → t < get_or wakes j 0)
+      → Going ls n H bs wall₀ own₀ t (i + d) hs wakes worked idle wall own
+  going_on zero i g within asleep = subst (λ k. Going ls n H bs wall₀ own₀ t k hs wakes worked idle wall own) (sym (add-zero i)) g
+  going_on (suc d) i g within asleep =
+      let e : i + 1 + d ≡ i + suc d = omega arith in
+      subst (λ k. Going ls n H bs wall₀ own₀ t k hs wakes worked idle wall own) e
+      (going_on d (i + 1) (going_sleeps g (omega arith) (asleep i (omega arith) (omega arith))) (omega arith) (λ j m l. asleep j (omega arith) (omega arith)))
+
+  pub going_asleep : Going ls n H bs wall₀ own₀ t 0 hs wakes worked idle wall own → ((j : ℕ) → j < n → t < get_or wakes j 0) → (k : ℕ) → k ≤ n
+      → Going ls n H bs wall₀ own₀ t k hs wakes worked idle wall own
+  going_asleep g asleep k l =
+      let e : 0 + k ≡ k = omega arith in
+      subst (λ m. Going ls n H bs wall₀ own₀ t m hs wakes worked idle wall own) e (going_on k 0 g (omega arith) (λ j m less. asleep j (omega arith)))
 
 -- what the code holds of a session on its way
 abbrev pub midway : {ls : List Line} {n H : ℕ} {bs wall₀ own₀ : List ℕ} {t i : ℕ} {worked : List ℕ} {idle : ℕ} {wall own : List ℕ} (c : HeldCourse)

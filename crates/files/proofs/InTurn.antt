@@ -6,7 +6,11 @@ use native.Mathlib.Omega.{arith}
 use Rattle.base.specs.Refusals.{taken}
 use Rattle.rules.specs.declared.Table.{Table}
 use Rattle.rules.specs.Admission.{read_table}
-use Rattle.rules.specs.Files.{both_taken, read_files}
+use Rattle.std.proofs.Common.{Ok, Err}
+use Rattle.std.proofs.Math.Option.{some}
+use Rattle.rules.specs.declared.Refused.{Refused}
+use Rattle.rules.specs.Verdicts.{accepted, verdict_said, answer_in}
+use Rattle.rules.specs.Files.{both_taken, one_refused, read_files}
 use Rattle.rules.specs.Values.{held_table, lines_held}
 use Rattle.rules.specs.Fit.{FitTable}
 use Rattle.rules.proofs.Held.{lines_held_lem}
@@ -17,7 +21,8 @@ use Rattle.arrivals.specs.declared.LogAnswer.{LogAnswer}
 use Rattle.arrivals.specs.Places.{log_of}
 use Rattle.arrivals.proofs.LogAnswers.{Took}
 use Rattle.arrivals.proofs.TakenLog.{log_is, whole_log, task_fits}
-use Rattle.files.specs.FilesTaken.{FilesTaken}
+use Rattle.files.specs.declared.Files.{Files}
+use Rattle.files.specs.FilesTaken.{FilesTaken, told}
 
 module _ (table_bytes log_bytes : List ℕ) (t : Table) (k : TableTaken table_bytes t) (fit : FitTable t) where
   lines_are : lines_held t ≡ k.lines
@@ -42,3 +47,13 @@ module _ (table_bytes log_bytes : List ℕ) (t : Table) (k : TableTaken table_by
           tasks = task_fits t log_bytes took.log took.read;
           short = omega (arith, took.horizon, (read_log_lem (lines_held t) log_bytes took.log took.read).short);
         }
+
+-- ---- what is told of them
+
+pub told_taken : (table_bytes log_bytes : List ℕ) (f : Files) → FilesTaken table_bytes log_bytes f → answer_in (Ok f) ≡ told (read_files table_bytes log_bytes)
+unfolding answer_in told log_of
+told_taken table_bytes log_bytes f k = ap (λ t. record { verdict = accepted; given = some (record { table = t; horizon = f.horizon }) }) k.held ∙ sym (ap told k.read)
+
+pub told_refused : (table_bytes log_bytes : List ℕ) (why : Refused) → read_files table_bytes log_bytes ≡ one_refused (verdict_said why) → answer_in {A = Files} (Err why) ≡ told (read_files table_bytes log_bytes)
+unfolding answer_in told
+told_refused table_bytes log_bytes why e = sym (ap told e)

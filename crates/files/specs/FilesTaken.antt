@@ -1,11 +1,18 @@
--- What is known where both files are taken.
+-- What the code tells of two files, and what is known where both are taken.
 use Rattle.std.specs.Prelude.{◌≡◌, List, ℕ, ◌≤◌, ◌<◌, length, get_or}
 use Rattle.rules.specs.ArrivalLog.{entry_at, longest_session}
-use Rattle.rules.specs.Files.{both_taken, read_files}
+use Rattle.std.proofs.Math.Option.{some, none}
+use Rattle.rules.specs.Files.{TwoFiles, both_taken, one_refused, read_files}
+use Rattle.rules.specs.Verdicts.{Answered, accepted}
 use Rattle.rules.specs.Values.{held_table, lines_held, no_held_line}
 use Rattle.rules.specs.Fit.{FitTable}
 use Rattle.arrivals.specs.Places.{log_of, Place, WholeLog}
 use Rattle.files.specs.declared.Files.{Files}
+
+-- the table and the wall ticks of the two, or the verdict that refuses one of them
+unfoldable pub told : TwoFiles → Answered Files
+told (both_taken ls log) = record { verdict = accepted; given = some (record { table = held_table ls; horizon = log.horizon }) }
+told (one_refused v) = record { verdict = v; given = none }
 
 -- the rules take both; the table is theirs, within its limits, the log is whole and its bytes hold the entries that were read, and none is of a task that its booth does not have
 pub record FilesTaken (table_bytes log_bytes : List ℕ) (f : Files) : Type 0 where

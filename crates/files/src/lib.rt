@@ -3,8 +3,8 @@
 
 ghost use Rattle.std.specs.Prelude.{◌≡◌, IfOk, IfErr};
 ghost use Rattle.rules.specs.Files.{one_refused, read_files};
-ghost use Rattle.rules.specs.Verdicts.{verdict_said};
-ghost use Rattle.files.specs.FilesTaken.{FilesTaken};
+ghost use Rattle.rules.specs.Verdicts.{verdict_said, answer_in};
+ghost use Rattle.files.specs.FilesTaken.{FilesTaken, told};
 
 use rules::{Refused, Table};
 
@@ -17,6 +17,7 @@ pub struct Files {
 
 // Any bytes as table and log. They stay two parameters, here and above: C hands them over as two, and a struct of two slices is no plainer.
 pub fn read_files(table: &[u8], log: &[u8]) -> Result<Files, Refused>
+    ensures whole { answer_in result ≡ told (read_files table.now log.now) }
     ensures taken { IfOk result (λ files. FilesTaken table.now log.now files) }
     ensures refused { IfErr result (λ why. read_files table.now log.now ≡ one_refused (verdict_said why)) }
 {

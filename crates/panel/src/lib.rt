@@ -2,13 +2,13 @@
 #![tactic(auto)]
 
 ghost use Rattle.std.specs.Prelude.{◌≡◌, ◌+◌, ◌≤◌, length, take, sum, IfOk};
-ghost use Rattle.rules.specs.Verdicts.{verdict_in};
+ghost use Rattle.rules.specs.Verdicts.{verdict_in, answer_in};
 ghost use Rattle.rules.specs.InRange.{Sound};
 ghost use Rattle.rules.specs.Session as session;
 ghost use Rattle.rules.specs.Panel as page;
 ghost use Rattle.panel.specs.Exact.{ExactAtPowers};
 ghost use Rattle.panel.specs.Lanes.{EachBelow, OneMore};
-ghost use Rattle.panel.specs.Shown.{shown_reading, shown_row};
+ghost use Rattle.panel.specs.Shown.{shown_reading, shown_row, shown_answer};
 
 use base::Reason;
 use rules::{LONGEST_SESSION, Promise, Refused, WallTick};
@@ -134,6 +134,7 @@ fn panel_row(promise: Promise, worked: u32, t: u32) -> PanelRow
 
 // The panel row of a booth after `t` wall ticks, for any bytes as table and wall record.
 pub fn panel(table: &[u8], wall: &[u8], booth: usize, t: WallTick) -> Result<PanelRow, Refused>
+    ensures whole { answer_in result ≡ shown_answer (page.panel table.now wall.now booth t.0) }
     ensures verdict { verdict_in result ≡ (page.panel table.now wall.now booth t.0).verdict }
     ensures row { IfOk result (λ row. row ≡ shown_row (page.panel table.now wall.now booth t.0)) }
 {

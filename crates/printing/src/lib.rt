@@ -3,10 +3,9 @@
 
 ghost use Rattle.std.specs.Prelude.{◌≡◌, map, ◌+◌, ◌≤◌, length, take};
 ghost use Rattle.rules.specs.Desk as page;
-ghost use Rattle.base.specs.Refusals.{said};
+ghost use Rattle.base.specs.Refusals.{refusal};
 ghost use Rattle.printing.specs.Room.{most_digits, refused_room, booth_room};
 
-use base::Refusal;
 use itoa::Buffer;
 use rules::BOOTHS_ALLOWED;
 
@@ -28,6 +27,17 @@ pub struct Paper<'a> {
     out: &'a mut [u8],
     at: usize,
     pub ghost inside: { at ≤ length out.now },
+}
+
+// Bytes laid over a part that is as long. One by one, since the library's `copy_from_slice` calls `memmove`, and the archive for C asks
+// for nothing from outside but `memcpy` and `memset`.
+fn lay_over(part: &mut [u8], bytes: &[u8])
+    requires { length part.old ≡ length bytes.now }
+    ensures { part.new ≡ bytes.now }
+{
+    for (i, byte) in bytes.iter().enumerate() {
+        part[i] = *byte;
+    }
 }
 
 impl<'a> Paper<'a> {
@@ -55,7 +65,7 @@ impl<'a> Paper<'a> {
         ensures { Printed bytes.now self.old self.new }
     {
         let end = self.at + bytes.len();
-        self.out[self.at..end].copy_from_slice(bytes);
+        lay_over(&mut self.out[self.at..end], bytes);
         self.at = end;
     }
 
@@ -111,14 +121,15 @@ impl<'a> Paper<'a> {
     }
 
     #[tactic(auto, using(crate::proofs::Digits::labelled_length))]
-    pub fn refused_line(&mut self, what: &[u8], refusal: Refusal)
+    // A number and a place, as the page has them, and no `base::Refusal`: a line is promised of any number.
+    pub fn refused_line(&mut self, what: &[u8], number: u32, place: usize)
         requires { HasRoom (length what.now + refused_room) self.old }
-        ensures { Printed (page.refused_line what.now (said refusal)) self.old self.new }
+        ensures { Printed (page.refused_line what.now (refusal number place)) self.old self.new }
     {
         self.put(b"refused ");
         // `as`, since there is no From from u32 to usize.
-        self.put_labelled(what, refusal.reason.number() as usize);
-        self.number_line(b" at ", refusal.place);
+        self.put_labelled(what, number as usize);
+        self.number_line(b" at ", place);
     }
 
     #[tactic(auto, using(crate::proofs::Digits::labelled_length))]

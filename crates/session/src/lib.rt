@@ -4,7 +4,7 @@
 ghost use Rattle.std.specs.Prelude.{◌≡◌, ◌≤◌, length, IfOk};
 ghost use Rattle.rules.specs.Session as page;
 ghost use Rattle.rules.specs.Values.{lines_held};
-ghost use Rattle.rules.specs.Verdicts.{verdict_in};
+ghost use Rattle.rules.specs.Verdicts.{verdict_in, answer_in};
 ghost use Rattle.session.specs.SessionAnswered as said;
 ghost use Rattle.arrivals.specs.Places.{log_of};
 ghost use Rattle.engine.specs.Running.{Clocks, Playable};
@@ -68,6 +68,7 @@ pub fn session(
     wall: &mut [u8],
     own: &mut [u8],
 ) -> Result<SessionAnswer, Refused>
+    ensures whole { answer_in result ≡ said.answered_in (page.session table.now log.now wall.old own.old) }
     ensures verdict { verdict_in result ≡ (page.session table.now log.now wall.old own.old).verdict }
     ensures answer { IfOk result (λ answer. answer ≡ said.answered (page.session table.now log.now wall.old own.old)) }
     ensures wall { wall.new ≡ (page.session table.now log.now wall.old own.old).wall }

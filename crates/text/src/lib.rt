@@ -1,12 +1,14 @@
 // The desk's text of any input, line after line, into a lent buffer.
 #![tactic(auto)]
 
-ghost use Rattle.std.specs.Prelude.{◌≡◌, ◌*◌, ◌≤◌, length};
+ghost use Rattle.std.specs.Prelude.{◌≡◌, ◌+◌, ◌*◌, ◌≤◌, length};
+ghost use Rattle.base.specs.Refusals.{said};
 ghost use Rattle.rules.specs.Desk as page;
+ghost use Rattle.printing.specs.Room.{refused_room};
 ghost use Rattle.printing.specs.Printed.{HasRoom, Printed};
 ghost use Rattle.text.specs.TextAnswered.{answer_text, text_room, booth_line_room, text_length, with_text};
 
-use base::Reason;
+use base::{Reason, Refusal};
 use printing::Paper;
 use rules::{BOOTHS_ALLOWED, Refused};
 use session::SessionAnswer;
@@ -42,6 +44,14 @@ fn admitted_text(paper: &mut Paper, answer: SessionAnswer, wall: &[u8], own: &[u
     paper.number_line(b"idle ", answer.idle as usize);
 }
 
+// The line of what is refused, in document 01's number.
+fn print_refusal(paper: &mut Paper, what: &[u8], refusal: Refusal)
+    requires { HasRoom (length what.now + refused_room) paper.old }
+    ensures { Printed (page.refused_line what.now (said refusal)) paper.old paper.new }
+{
+    paper.refused_line(what, refusal.reason.number(), refusal.place);
+}
+
 // The session of a table and a log in records of the desk's own, as text.
 #[tactic(auto, using(crate::proofs::Printed::session_prints, crate::proofs::Printed::table_prints, crate::proofs::Printed::log_prints, crate::proofs::Printed::call_prints), unfolding(crate::proofs::Printed::desk_outcome, rules::specs::Verdicts::verdict_in))]
 fn session_text(paper: &mut Paper, table: &[u8], log: &[u8])
@@ -52,9 +62,9 @@ fn session_text(paper: &mut Paper, table: &[u8], log: &[u8])
     let mut own = [0u8; BOOTHS_ALLOWED * MOST_TICKS];
     match session::session(table, log, &mut wall, &mut own) {
         Ok(answer) => admitted_text(paper, answer, &wall, &own, answer.horizon as usize),
-        Err(Refused::Table(refusal)) => paper.refused_line(b"table ", refusal),
-        Err(Refused::Log(refusal)) => paper.refused_line(b"log ", refusal),
-        Err(Refused::Call(refusal)) => paper.refused_line(b"session ", refusal),
+        Err(Refused::Table(refusal)) => print_refusal(paper, b"table ", refusal),
+        Err(Refused::Log(refusal)) => print_refusal(paper, b"log ", refusal),
+        Err(Refused::Call(refusal)) => print_refusal(paper, b"session ", refusal),
     }
 }
 
@@ -77,7 +87,7 @@ fn input_text(paper: &mut Paper, input: &[u8])
     ensures { Printed (page.desk_text input.now) paper.old paper.new }
 {
     if MOST_INPUT < input.len() {
-        return paper.refused_line(b"input ", Reason::TooLongAnInput.at(MOST_INPUT));
+        return print_refusal(paper, b"input ", Reason::TooLongAnInput.at(MOST_INPUT));
     }
     let (table, log) = input.split_at(table_end(input));
     session_text(paper, table, log);

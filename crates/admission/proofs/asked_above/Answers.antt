@@ -3,7 +3,7 @@ use Rattle.std.proofs.Common.{◌*◌, ◌≤◌, get_or, refl, arith}
 use Rattle.rules.specs.Admission.{asked_above}
 use Rattle.rules.specs.Values.{no_held_line}
 use Rattle.rules.proofs.Fitting.{fit_sound, fit_short}
-use Rattle.admission.proofs.Test.{asked_more, product_small}
+use Rattle.admission.proofs.Test.{asked_more, asked_small}
 use Rattle.admission.proofs.asked_above.Goals as goal
 use Rattle.admission.proofs.asked_above.Goals.{After-rounded_up}
 
@@ -18,7 +18,7 @@ rounded_up-requires c =
 
 -- what the next booth asks is far below 2^32
 small : (c : After-rounded_up) → (get_or c.args.above.now c.loop-line.line-index no_held_line).promise.allowance * c.rounded_up.result ≤ 200000000
-small c = product_small _ c.rounded_up.result (c.requires.fit c.loop-line.line-index no_held_line (omega arith)) c.rounded_up.ensures.1
+small c = asked_small _ c.rounded_up.result (c.requires.fit c.loop-line.line-index no_held_line (omega arith)) c.rounded_up.ensures.1
 
 pub overflow_mul-asked : goal.overflow_mul-asked
 overflow_mul-asked c = omega (arith, small (goal.at.overflow_mul-asked c).After-rounded_up)

@@ -1,5 +1,5 @@
 -- `base::number` meets its contract: the bytes that were read are a number already. Assumes nothing.
-use Rattle.std.proofs.Common.{refl, ◌≡◌, sym, ap, ◌∙◌, subst, List, ℕ, ◌+◌, ◌-◌, ◌*◌, ◌^◌, ◌<◌, ◌≤◌, arith, length, take, drop, get_or, length-drop}
+use Rattle.std.proofs.Common.{rules, refl, ◌≡◌, sym, ap, ◌∙◌, subst, List, ℕ, ◌+◌, ◌-◌, ◌*◌, ◌^◌, ◌<◌, ◌≤◌, arith, length, take, drop, get_or, length-drop}
 use lib.Seq.{length-take-le, take_all}
 use Rattle.base.specs.Bytes.{big_endian, number_at}
 use Rattle.base.proofs.BigEndian.{number_longer, fits_longer, room_for_one}
@@ -36,4 +36,5 @@ returns g c =
     let now = c.loop-byte in
     let all : now.byte-index ≡ W = omega (arith, h.0) in
     let is : now.n ≡ big_endian (take W (drop c.args.at c.args.bytes.now)) = now.invariant.so_far ∙ ap big_endian (take_all now.byte-index _ (omega arith) ∙ h.1) in
-    (is, subst (λ i. now.n < 256 ^ i) all now.invariant.small)
+    let small : now.n < 256 ^ W = subst (λ i. now.n < 256 ^ i) all now.invariant.small in
+    search (rules, is, small)

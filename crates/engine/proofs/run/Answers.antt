@@ -2,20 +2,23 @@
 use mathlib.Core.Path.{◌≡◌, refl, subst}
 use Prim.Native.Nat.{◌+◌, ◌-◌, ◌<◌}
 use native.Mathlib.Omega.{arith}
+use Rattle.std.proofs.lemmas.Grind.{common_steps}
 use Rattle.engine.specs.Running.{SleepTo, Running, Ready, Going}
-use Rattle.engine.proofs.Engine.{midway, going_asleep, going_nobody, going_idle, worked_fits}
+use Rattle.engine.proofs.Engine.{midway, going_worked, going_asleep, going_nobody, going_idle, worked_fits}
 use Rattle.engine.proofs.run.Goals as goal
 use Rattle.engine.proofs.run.Goals.{then-soonest-t+in_default, else-soonest-t}
 
 pub overflow_add-worked : goal.overflow_add-worked
-overflow_add-worked c = record { fits = worked_fits (c.loop-t.invariant.2 c.requires) c.in-Some.i c.in-Some.ensures.0 }
+overflow_add-worked c =
+    let fits = worked_fits (c.loop-t.invariant.2 c.requires) c.in-Some.i c.in-Some.ensures.0 in
+    record { fits = grind (arith, common_steps, fits) }
 
 pub loop-t-preserved-in-Some : goal.loop-t-preserved-in-Some
 loop-t-preserved-in-Some c =
     let l = c.loop-t in (
       omega (arith, l.invariant.0),
       λ ahead. absurd (omega (arith, c.if-soonest-t.true)),
-      λ e. going_idle (c.in-Some.ensures.1 (midway l.course (l.invariant.2 e))) (omega (arith, l.invariant.0)),
+      λ e. going_worked (going_idle (c.in-Some.ensures.1 (midway l.course (l.invariant.2 e))) (omega (arith, l.invariant.0))) (grind (arith, common_steps)),
     )
 
 pub loop-t-preserved : goal.loop-t-preserved

@@ -2,18 +2,20 @@
 use Rattle.std.proofs.Common.{rules, ◌≡◌, ◌<◌, ◌≤◌, refl, sym, ap, ◌∙◌, arith, length, take, get_or, Result, Ok, Err}
 use Rattle.std.proofs.lemmas.Result.{err_from_is_err_and}
 use Rattle.base.specs.declared.Refusal.{Refusal as HeldRefusal}
+use Rattle.base.specs.declared.Reason.TheVariants.{NoSuchBoothOrTask, DoesNotFit}
 use Rattle.base.specs.Refusals.{said, number_of}
 use Rattle.base.proofs.Checks.{ok_once, ok_not_err}
-use Rattle.rules.specs.declared.Refused.TheVariants.{Table}
+use Rattle.rules.specs.declared.Refused.TheVariants.{Table, Call}
 use Rattle.rules.specs.declared.Table.{Table as HeldTable}
 use Rattle.rules.specs.Fit.{FitTable}
 use Rattle.rules.specs.Panel as page
 use Rattle.rules.specs.Session.{count}
 use Rattle.rules.specs.Values.{no_held_line}
-use Rattle.rules.specs.Verdicts.{verdict_said, verdict_in}
+use Rattle.rules.specs.Verdicts.{Verdict, verdict_said, verdict_in}
 use Rattle.rules.proofs.Fitting.{fit_sound}
+use Rattle.rules.proofs.OneAnswer.{answered_so}
 use Rattle.table.proofs.TableTaken.{TableTaken, answer_taken, answer_refused, taken_booths, taken_promise}
-use Rattle.panel.specs.Shown.{shown_row}
+use Rattle.panel.specs.Shown.{shown_row, shown_answer}
 use Rattle.panel.proofs.Cases.{panel_bad_table, panel_absent, panel_past, panel_long, panel_read, row_accepted}
 use Rattle.panel.proofs.panel.Goals as goal
 use Rattle.panel.proofs.panel.Goals.{In_ok-held, In_err-held}
@@ -37,6 +39,12 @@ returns-in_err-held-clause-verdict c =
     let p = err_from_is_err_and c.from_residual.result c.from_residual.ensures.1 in
     rw (p.1, p.2) (table_said (goal.at.returns-in_err-held-clause-verdict c).In_err-held)
 
+pub returns-in_err-held-clause-whole : goal.returns-in_err-held-clause-whole
+unfolding verdict_in shown_answer
+returns-in_err-held-clause-whole c =
+    let p = err_from_is_err_and c.from_residual.result c.from_residual.ensures.1 in
+    rw (p.1, p.2) (answered_so (Err _) _ _ (table_said (goal.at.returns-in_err-held-clause-whole c).In_err-held) tt)
+
 -- the table was taken
 module _ (c : In_ok-held) where
   table_was : c.read_table.result ≡ Ok c.in_ok-held.held
@@ -55,23 +63,51 @@ module _ (c : In_ok-held) where
   there : c.args.booth < c.in_ok-held.held.booths → c.args.booth < length table_taken.lines
   there h = omega (arith, taken_booths _ _ table_taken, h)
 
+-- the three refusals of the call, each with what was answered for it
+module _ (c : In_ok-held) where
+  abbrev asked : Verdict
+  asked = (page.panel c.args.table.now c.args.wall.now c.args.booth c.args.t.0).verdict
+
+  absent_said : (r : HeldRefusal) → r ≡ record { reason = NoSuchBoothOrTask; place = 0 } → c.in_ok-held.held.booths ≤ c.args.booth → verdict_said (Call r) ≡ asked
+  unfolding verdict_said said number_of page.no_panel
+  absent_said r is h = ap (λ x. verdict_said (Call x)) is ∙ sym (ap (λ p. p.verdict) (panel_absent _ c.args.wall.now _ c.args.t.0 (table_taken c).lines (table_taken c).read (absent c h)))
+
+  past_said : (r : HeldRefusal) → r ≡ record { reason = DoesNotFit; place = 0 } → c.args.booth < c.in_ok-held.held.booths → length c.args.wall.now < c.args.t.0 → verdict_said (Call r) ≡ asked
+  unfolding verdict_said said number_of page.no_panel
+  past_said r is h past = ap (λ x. verdict_said (Call x)) is ∙ sym (ap (λ p. p.verdict) (panel_past _ _ _ _ (table_taken c).lines (table_taken c).read (there c h) past))
+
+  long_said : (r : HeldRefusal) → r ≡ record { reason = DoesNotFit; place = 0 } → c.args.booth < c.in_ok-held.held.booths → c.args.t.0 ≤ length c.args.wall.now → 1000000 < c.args.t.0
+      → verdict_said (Call r) ≡ asked
+  unfolding verdict_said said number_of page.no_panel
+  long_said r is h short long = ap (λ x. verdict_said (Call x)) is ∙ sym (ap (λ p. p.verdict) (panel_long _ _ _ _ (table_taken c).lines (table_taken c).read (there c h) short long))
+
 pub returns-then-held-booth-clause-verdict : goal.returns-then-held-booth-clause-verdict
-unfolding verdict_in verdict_said said number_of page.no_panel
-returns-then-held-booth-clause-verdict c =
-    let k = (goal.at.returns-then-held-booth-clause-verdict c).In_ok-held in
-    simp (c.at.ensures, panel_absent _ c.args.wall.now _ c.args.t.0 (table_taken k).lines (table_taken k).read (absent k c.if-held-booth.true))
+unfolding verdict_in
+returns-then-held-booth-clause-verdict c = absent_said (goal.at.returns-then-held-booth-clause-verdict c).In_ok-held _ c.at.ensures c.if-held-booth.true
+
+pub returns-then-held-booth-clause-whole : goal.returns-then-held-booth-clause-whole
+unfolding verdict_in shown_answer
+returns-then-held-booth-clause-whole c = answered_so (Err _) _ _ (absent_said (goal.at.returns-then-held-booth-clause-whole c).In_ok-held _ c.at.ensures c.if-held-booth.true) tt
 
 pub returns-then-wall-t-clause-verdict : goal.returns-then-wall-t-clause-verdict
-unfolding verdict_in verdict_said said number_of page.no_panel
-returns-then-wall-t-clause-verdict c =
-    let k = (goal.at.returns-then-wall-t-clause-verdict c).In_ok-held in
-    simp (c.at-then-wall-t.ensures, panel_past _ _ _ _ (table_taken k).lines (table_taken k).read (there k c.if-held-booth.false) c.if-wall-t.true)
+unfolding verdict_in
+returns-then-wall-t-clause-verdict c = past_said (goal.at.returns-then-wall-t-clause-verdict c).In_ok-held _ c.at-then-wall-t.ensures c.if-held-booth.false c.if-wall-t.true
+
+pub returns-then-wall-t-clause-whole : goal.returns-then-wall-t-clause-whole
+unfolding verdict_in shown_answer
+returns-then-wall-t-clause-whole c =
+    answered_so (Err _) _ _ (past_said (goal.at.returns-then-wall-t-clause-whole c).In_ok-held _ c.at-then-wall-t.ensures c.if-held-booth.false c.if-wall-t.true) tt
 
 pub returns-then-t-gt-LONGEST_SESSION-clause-verdict : goal.returns-then-t-gt-LONGEST_SESSION-clause-verdict
-unfolding verdict_in verdict_said said number_of page.no_panel
+unfolding verdict_in
 returns-then-t-gt-LONGEST_SESSION-clause-verdict c =
-    let k = (goal.at.returns-then-t-gt-LONGEST_SESSION-clause-verdict c).In_ok-held in
-    simp (c.at-then-t-gt-LONGEST_SESSION.ensures, panel_long _ _ _ _ (table_taken k).lines (table_taken k).read (there k c.if-held-booth.false) c.if-wall-t.false c.if-t-gt-LONGEST_SESSION.true)
+    long_said (goal.at.returns-then-t-gt-LONGEST_SESSION-clause-verdict c).In_ok-held _ c.at-then-t-gt-LONGEST_SESSION.ensures c.if-held-booth.false c.if-wall-t.false c.if-t-gt-LONGEST_SESSION.true
+
+pub returns-then-t-gt-LONGEST_SESSION-clause-whole : goal.returns-then-t-gt-LONGEST_SESSION-clause-whole
+unfolding verdict_in shown_answer
+returns-then-t-gt-LONGEST_SESSION-clause-whole c =
+    answered_so (Err _) _ _
+    (long_said (goal.at.returns-then-t-gt-LONGEST_SESSION-clause-whole c).In_ok-held _ c.at-then-t-gt-LONGEST_SESSION.ensures c.if-held-booth.false c.if-wall-t.false c.if-t-gt-LONGEST_SESSION.true) tt
 
 pub panel_row-requires : goal.panel_row-requires
 panel_row-requires c =
@@ -94,3 +130,18 @@ returns-clause-row c =
     ∙ ap (λ n. shown_row (page.panel_row promise n a.t.0)) c.worked_ticks.ensures
     ∙ ap (λ p. shown_row (page.panel_row p (count a.booth (take a.t.0 a.wall.now)) a.t.0)) (taken_promise _ _ (table_taken k) a.booth here)
     ∙ sym (ap shown_row (panel_read _ _ _ _ (table_taken k).lines (table_taken k).read here c.if-wall-t.false c.if-t-gt-LONGEST_SESSION.false))
+
+pub returns-clause-whole : goal.returns-clause-whole
+unfolding verdict_in shown_answer
+returns-clause-whole c =
+    let a = c.args in
+    let k = (goal.at.returns-clause-whole c).In_ok-held in
+    let here = there k c.if-held-booth.false in
+    let read = panel_read _ _ _ _ (table_taken k).lines (table_taken k).read here c.if-wall-t.false c.if-t-gt-LONGEST_SESSION.false in
+    let v = sym (ap (λ p. p.verdict) read ∙ row_accepted _ _ _) in
+    let row =
+    c.panel_row.ensures
+    ∙ ap (λ n. shown_row (page.panel_row (get_or c.in_ok-held.held.lines a.booth no_held_line).promise n a.t.0)) c.worked_ticks.ensures
+    ∙ ap (λ p. shown_row (page.panel_row p (count a.booth (take a.t.0 a.wall.now)) a.t.0)) (taken_promise _ _ (table_taken k) a.booth here)
+    ∙ sym (ap shown_row read) in
+    answered_so (Ok _) _ _ v row

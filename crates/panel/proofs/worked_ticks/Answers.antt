@@ -30,7 +30,7 @@ loop-part-preserved c =
       can_next = search rules;
       finite = tt;
       size = steps.0 ∙ held.size;
-      together = omega (arith, c.worked_in-worked.ensures, more);
+      together = omega (arith, c.worked_in-worked.ensures, more, worked_le k c.args.t c.args.wall.now);
     }
 
 pub returns : goal.returns

@@ -25,8 +25,8 @@ returns-then-bytes-at-clause-fault c =
     let fine = sym c.length_allowed.ensures ∙ c.if-not-length_allowed.false in
     simp (c.at-then-bytes-at.ensures, ← c.from-l.ensures, fine, lt-ltb (length c.args.bytes.now) (c.args.at + 1 + c.from-l.result) c.if-bytes-at.true)
 
-pub line_at-line-requires : goal.line_at-line-requires
-line_at-line-requires c =
+pub line_at-requires : goal.line_at-requires
+line_at-requires c =
     let fine = sym c.length_allowed.ensures ∙ c.if-not-length_allowed.false in
     let L = allowed_within c.from-l.result fine in
     (c.requires, c.from-l.ensures, L.0, L.1, c.if-bytes-at.false)
@@ -36,7 +36,7 @@ unfolding held_line line_at record_l
 check_line-requires c =
     let L = get_or c.args.bytes.now c.args.at 0 in
     let n : length (jobs_at ((L - 4) / 2) c.args.bytes.now (c.args.at + 5)) ≡ (L - 4) / 2 = length_jobs ((L - 4) / 2) c.args.bytes.now (c.args.at + 5) in
-    let t : c.line_at-line.result.tasks ≡ length (jobs_at ((L - 4) / 2) c.args.bytes.now (c.args.at + 5)) = ap (λ l. l.tasks) c.line_at-line.ensures in
+    let t : c.line_at.result.tasks ≡ length (jobs_at ((L - 4) / 2) c.args.bytes.now (c.args.at + 5)) = ap (λ l. l.tasks) c.line_at.ensures in
     omega (arith, c.from-l.ensures, allowed_within c.from-l.result (sym c.length_allowed.ensures ∙ c.if-not-length_allowed.false))
 
 pub returns-in_err-check_line-clause-fault : goal.returns-in_err-check_line-clause-fault
@@ -44,11 +44,11 @@ unfolding record_checks record_l record_end first_fault refuse_if fault_in
 returns-in_err-check_line-clause-fault c =
     let p = err_from_is_err_and c.from_residual.result c.from_residual.ensures.1 in
     let fine = sym c.length_allowed.ensures ∙ c.if-not-length_allowed.false in
-    rw (p.1, p.2) (simp (← c.from-l.ensures, fine, le-ltb (length c.args.bytes.now) (c.args.at + 1 + c.from-l.result) c.if-bytes-at.false) (c.in_err-check_line.ensures ∙ the_line c.args.bytes.now c.args.at c.line_at-line.result c.line_at-line.ensures))
+    rw (p.1, p.2) (simp (← c.from-l.ensures, fine, le-ltb (length c.args.bytes.now) (c.args.at + 1 + c.from-l.result) c.if-bytes-at.false) (c.in_err-check_line.ensures ∙ the_line c.args.bytes.now c.args.at c.line_at.result c.line_at.ensures))
 
 pub returns-clause-fault : goal.returns-clause-fault
 unfolding record_checks record_l record_end first_fault refuse_if fault_in
 returns-clause-fault c =
     let fine = sym c.length_allowed.ensures ∙ c.if-not-length_allowed.false in
     simp (← c.from-l.ensures, fine, le-ltb (length c.args.bytes.now) (c.args.at + 1 + c.from-l.result) c.if-bytes-at.false)
-    (c.in_ok-check_line.ensures ∙ the_line c.args.bytes.now c.args.at c.line_at-line.result c.line_at-line.ensures)
+    (c.in_ok-check_line.ensures ∙ the_line c.args.bytes.now c.args.at c.line_at.result c.line_at.ensures)

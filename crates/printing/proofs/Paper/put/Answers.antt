@@ -4,4 +4,4 @@ use Rattle.printing.proofs.Pieces.{piece_printed}
 use Rattle.printing.proofs.Paper.put.Goals as goal
 
 pub returns : goal.returns
-returns c = piece_printed c.requires refl c.copy_from_slice.ensures.after refl refl refl
+returns c = piece_printed c.requires refl c.lay_over.ensures refl refl refl
