@@ -120,8 +120,8 @@ impl<'a> Paper<'a> {
         self.put(b"\n");
     }
 
-    #[tactic(auto, using(crate::proofs::Digits::labelled_length))]
     // A number and a place, as the page has them, and no `base::Refusal`: a line is promised of any number.
+    #[tactic(auto, using(crate::proofs::Digits::labelled_length))]
     pub fn refused_line(&mut self, what: &[u8], number: u32, place: usize)
         requires { HasRoom (length what.now + refused_room) self.old }
         ensures { Printed (page.refused_line what.now (refusal number place)) self.old self.new }

@@ -86,17 +86,16 @@ unfolding verdict_in
 returns-then-held-booth-clause-verdict c = absent_said (goal.at.returns-then-held-booth-clause-verdict c).In_ok-held _ c.at.ensures c.if-held-booth.true
 
 pub returns-then-held-booth-clause-whole : goal.returns-then-held-booth-clause-whole
-unfolding verdict_in shown_answer
-returns-then-held-booth-clause-whole c = answered_so (Err _) _ _ (absent_said (goal.at.returns-then-held-booth-clause-whole c).In_ok-held _ c.at.ensures c.if-held-booth.true) tt
+unfolding shown_answer
+returns-then-held-booth-clause-whole c = answered_so (Err _) _ _ (returns-then-held-booth-clause-verdict c) tt
 
 pub returns-then-wall-t-clause-verdict : goal.returns-then-wall-t-clause-verdict
 unfolding verdict_in
 returns-then-wall-t-clause-verdict c = past_said (goal.at.returns-then-wall-t-clause-verdict c).In_ok-held _ c.at-then-wall-t.ensures c.if-held-booth.false c.if-wall-t.true
 
 pub returns-then-wall-t-clause-whole : goal.returns-then-wall-t-clause-whole
-unfolding verdict_in shown_answer
-returns-then-wall-t-clause-whole c =
-    answered_so (Err _) _ _ (past_said (goal.at.returns-then-wall-t-clause-whole c).In_ok-held _ c.at-then-wall-t.ensures c.if-held-booth.false c.if-wall-t.true) tt
+unfolding shown_answer
+returns-then-wall-t-clause-whole c = answered_so (Err _) _ _ (returns-then-wall-t-clause-verdict c) tt
 
 pub returns-then-t-gt-LONGEST_SESSION-clause-verdict : goal.returns-then-t-gt-LONGEST_SESSION-clause-verdict
 unfolding verdict_in
@@ -104,10 +103,8 @@ returns-then-t-gt-LONGEST_SESSION-clause-verdict c =
     long_said (goal.at.returns-then-t-gt-LONGEST_SESSION-clause-verdict c).In_ok-held _ c.at-then-t-gt-LONGEST_SESSION.ensures c.if-held-booth.false c.if-wall-t.false c.if-t-gt-LONGEST_SESSION.true
 
 pub returns-then-t-gt-LONGEST_SESSION-clause-whole : goal.returns-then-t-gt-LONGEST_SESSION-clause-whole
-unfolding verdict_in shown_answer
-returns-then-t-gt-LONGEST_SESSION-clause-whole c =
-    answered_so (Err _) _ _
-    (long_said (goal.at.returns-then-t-gt-LONGEST_SESSION-clause-whole c).In_ok-held _ c.at-then-t-gt-LONGEST_SESSION.ensures c.if-held-booth.false c.if-wall-t.false c.if-t-gt-LONGEST_SESSION.true) tt
+unfolding shown_answer
+returns-then-t-gt-LONGEST_SESSION-clause-whole c = answered_so (Err _) _ _ (returns-then-t-gt-LONGEST_SESSION-clause-verdict c) tt
 
 pub panel_row-requires : goal.panel_row-requires
 panel_row-requires c =
@@ -132,16 +129,5 @@ returns-clause-row c =
     ∙ sym (ap shown_row (panel_read _ _ _ _ (table_taken k).lines (table_taken k).read here c.if-wall-t.false c.if-t-gt-LONGEST_SESSION.false))
 
 pub returns-clause-whole : goal.returns-clause-whole
-unfolding verdict_in shown_answer
-returns-clause-whole c =
-    let a = c.args in
-    let k = (goal.at.returns-clause-whole c).In_ok-held in
-    let here = there k c.if-held-booth.false in
-    let read = panel_read _ _ _ _ (table_taken k).lines (table_taken k).read here c.if-wall-t.false c.if-t-gt-LONGEST_SESSION.false in
-    let v = sym (ap (λ p. p.verdict) read ∙ row_accepted _ _ _) in
-    let row =
-    c.panel_row.ensures
-    ∙ ap (λ n. shown_row (page.panel_row (get_or c.in_ok-held.held.lines a.booth no_held_line).promise n a.t.0)) c.worked_ticks.ensures
-    ∙ ap (λ p. shown_row (page.panel_row p (count a.booth (take a.t.0 a.wall.now)) a.t.0)) (taken_promise _ _ (table_taken k) a.booth here)
-    ∙ sym (ap shown_row read) in
-    answered_so (Ok _) _ _ v row
+unfolding shown_answer
+returns-clause-whole c = answered_so (Ok _) _ _ (returns-clause-verdict c) (returns-clause-row c)
